@@ -1,0 +1,26 @@
+-- Laws of demands: what is known where nothing was refused.
+use mathlib.Core.Path.{_≡_, refl}
+use mathlib.Core.Bool.{Bool, true, false, _&&_}
+use Prim.Native.Nat.{ℕ, zero, suc}
+use native.Mathlib.Omega.{arith}
+use Rattle.refusal.specs.Refusals.{demand, orElse}
+
+-- a demand that refuses nothing was met, and what follows refuses nothing
+pub met : (b : Bool) (k after : ℕ) → demand b (suc k) after ≡ 0 → (b ≡ true) × (after ≡ 0)
+met true k after h = (refl, h)
+met false k after h = absurd (omega arith)
+
+-- both tests of a joined one held
+pub both : (a b : Bool) → (a && b) ≡ true → (a ≡ true) × (b ≡ true)
+both true b h = (refl, h)
+both false b h = absurd (let z : _≡_ {A = ℕ} 0 1 = cc in omega arith)
+
+-- a first refusal is the answer
+pub or-first : (a b : ℕ) → (a ≡ 0 → ⊥) → a ≡ orElse a b
+or-first zero b h = absurd (h refl)
+or-first (suc a) b h = refl
+
+-- neither of two refused
+pub neither : (a b : ℕ) → orElse a b ≡ 0 → (a ≡ 0) × (b ≡ 0)
+neither zero b h = (refl, h)
+neither (suc a) b h = absurd (omega arith)

@@ -1,0 +1,49 @@
+-- Numbered refusals: 01's table, and the order in which a call looks for them. 0 stands for none.
+use Prim.Native.Nat.{ℕ, zero, suc}
+use mathlib.Core.Bool.{Bool, true, false}
+
+-- 1: under 48 bytes
+abbrev pub tooShort : ℕ
+tooShort = 1
+
+-- 2: unknown mark
+abbrev pub unknownMark : ℕ
+unknownMark = 2
+
+-- 3: edition not 1
+abbrev pub otherEdition : ℕ
+otherEdition = 3
+
+-- 4: n above 8,000
+abbrev pub tooMany : ℕ
+tooMany = 4
+
+-- 5: offset, length field or actual length wrong; writer's lists of unequal length
+abbrev pub wrongLength : ℕ
+wrongLength = 5
+
+-- 6: a zero field not zero, or a bad kind
+abbrev pub badField : ℕ
+badField = 6
+
+-- 7: write count differs from the records
+abbrev pub wrongWrites : ℕ
+wrongWrites = 7
+
+-- 8: a setting out of range
+abbrev pub outOfRange : ℕ
+outOfRange = 8
+
+-- 13: a lent buffer is too short
+abbrev pub noRoom : ℕ
+noRoom = 13
+
+-- what follows where a demand is met, else its refusal: demands written one after the other are checked in that order
+abbrev pub demand : Bool → ℕ → ℕ → ℕ
+demand true refusal after = after
+demand false refusal after = refusal
+
+-- the first refusal, else the second
+abbrev pub orElse : ℕ → ℕ → ℕ
+orElse zero next = next
+orElse (suc r) next = suc r

@@ -1,0 +1,24 @@
+use lib.ListN.{length-append}
+use Rattle.word.proofs.Laws.{sets-append, length-bytes}
+use Rattle.trace.specs.Encode.{shortBytes}
+use borrow.Author.Needs.{needs}
+use Rattle.scribe.proofs.put_shorts.Statement.{statement}
+use Rattle.scribe.proofs.put_shorts.Tie as tie
+
+returns : tie.Need-returns
+unfolding shortBytes
+returns c =
+    let c6 = c .before .before in
+    let c5 = c6 .before .before .before .before in
+    let c4 = c5 .before .before .before .before in
+    let c3 = c4 .before .before .before .before in
+    let c2 = c3 .before .before .before .before in
+    let c1 = c2 .before .before .before .before in
+    rw (c6 .put166 .ensures, c5 .put165 .ensures, c4 .put164 .ensures, c3 .put163 .ensures, c2 .put162 .ensures, c1 .put16 .ensures)
+    (simp (sets-append, length-append, length-bytes))
+
+pub put-shorts-spec : {M : Type 1} → statement M
+put-shorts-spec =
+    tie.close
+    (tie.spec (search needs) (search needs) (search needs) (search needs) (search needs) (search needs) (search needs)
+    returns)

@@ -1,0 +1,61 @@
+-- The writer and the converter: their refusals in order, and what they store.
+use Prim.Native.Nat.{ℕ, _≤_}
+use mathlib.Core.List.{List}
+use mathlib.Core.Bool.{Bool, _&&_}
+use mathlib.Core.Path.{_≡_}
+use lib.ListN.{length, take}
+use lib.Dec.{eqb, leb}
+use Rattle.word.specs.declared.Order.{Order}
+use Rattle.refusal.specs.Refusals.{demand, orElse, tooMany, wrongLength, badField, outOfRange, noRoom}
+use Rattle.settings.specs.Settings.{inRange}
+use Rattle.settings.specs.declared.Settings.{Settings}
+use Rattle.trace.specs.Layout.{Trace, recordLimit, fileLength, knownKinds, writesIn}
+use Rattle.trace.specs.Encode.{encode, turned}
+use Rattle.trace.specs.Check.{refusalOf, traceOf, decode, stored}
+use Rattle.trace.specs.Check.Decoded.{Whole}
+use Rattle.scribe.specs.declared.Kinds.{Kinds}
+
+-- the writer takes settings, an order, a list of pages and a list of kinds
+abbrev pub traceFrom : Settings → Order → List ℕ → List ℕ → Trace
+traceFrom settings order pages kinds = record { settings = settings; order = order; pages = pages; kinds = kinds }
+
+-- what one pass over kinds finds: none is bad, how many are writes
+abbrev pub kindsOf : List ℕ → Kinds
+kindsOf kinds = record { known = knownKinds kinds; writes = writesIn kinds }
+
+-- the writer checks 4 (longer list), 5, 6, 8, 13, where it is lent so many bytes
+unfoldable pub writeRefusal : Trace → ℕ → ℕ
+writeRefusal t room =
+    demand (leb (length (t .pages)) recordLimit && leb (length (t .kinds)) recordLimit) tooMany
+    (demand (eqb (length (t .pages)) (length (t .kinds))) wrongLength
+    (demand (knownKinds (t .kinds)) badField
+    (demand (inRange (t .settings)) outOfRange
+    (demand (leb (fileLength (length (t .pages))) room) noRoom 0))))
+
+-- the writer on lent bytes: its answer, and every byte afterwards
+pub record WrittenTo (t : Trace) (out : List ℕ) (answer : ℕ) (out′ : List ℕ) : Type 0 where
+  pub answers : answer ≡ writeRefusal t (length out)
+  pub bytes-hold : out′ ≡ stored (writeRefusal t (length out)) out (encode t)
+
+-- writing, then reading: where the writer refuses nothing, what it stored decodes to what it was given
+abbrev pub ReadsBack : Trace → ℕ → List ℕ → Type 0
+ReadsBack t answer out = answer ≡ 0 → decode (take (fileLength (length (t .pages))) out) ≡ Whole t
+
+-- the converter needs the file length: after the trace's refusals 13
+unfoldable pub convertRefusal : List ℕ → ℕ → ℕ
+convertRefusal s room = orElse (refusalOf s) (demand (leb (length s) room) noRoom 0)
+
+-- the same trace in the other order
+unfoldable pub converted : List ℕ → List ℕ
+converted s = encode (turned (traceOf s))
+
+-- the converter on lent bytes: its answer, and every byte afterwards
+pub record ConvertedTo (s out : List ℕ) (answer : ℕ) (out′ : List ℕ) : Type 0 where
+  pub answers : answer ≡ convertRefusal s (length out)
+  pub bytes-hold : out′ ≡ stored (convertRefusal s (length out)) out (converted s)
+
+-- converting, then converting again: where the converter refuses nothing, what it stored is accepted as the same trace in the other
+-- order, and its own conversion is the first bytes again
+abbrev pub ConvertsBack : List ℕ → ℕ → List ℕ → Type 0
+ConvertsBack s answer out =
+    answer ≡ 0 → (decode (take (length s) out) ≡ Whole (turned (traceOf s))) × (converted (take (length s) out) ≡ s)

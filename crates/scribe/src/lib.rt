@@ -1,0 +1,226 @@
+// The writer and the converter of traces.
+ghost use mathlib.Core.Path.{_≡_};
+ghost use Prim.Native.Nat.{_+_, _≤_};
+ghost use mathlib.Core.List.{[], _∷_};
+ghost use lib.ListN.{length, getD};
+ghost use lib.Seq.{sets};
+ghost use Rattle.trace.specs.Layout.{recordLimit, fileLength};
+ghost use Rattle.trace.specs.Encode.{markBytes, countBytes, shortBytes, longBytes, headerBytes, recordBytes, recordsTo, encode, other, turned};
+ghost use Rattle.trace.specs.Check.{checkOf, traceOf};
+ghost use Rattle.scribe.specs.Write.{traceFrom, kindsOf, writeRefusal, WrittenTo, ReadsBack, ConvertedTo, ConvertsBack};
+use refusal::demanded;
+use settings::Settings;
+use trace::Checked;
+use trace::Header;
+use word::Order;
+
+// What one pass over kinds finds.
+pub struct Kinds {
+    pub known: bool,
+    pub writes: usize,
+}
+
+fn survey_kinds(kinds: &[u16]) -> Kinds
+    ensures { λ r. ⌜ (r ≡ kindsOf (now (kinds .entry))) × (r .writes ≤ length (now (kinds .entry))) ⌝ }
+{
+    let mut known = true;
+    let mut writes: usize = 0;
+    let mut i: usize = 0;
+    while i < kinds.len() {
+        let kind = kinds[i];
+        known = known & (kind <= 3);
+        writes = writes + (trace::count_write(kind) as usize);
+        i += 1;
+    }
+    Kinds {
+        known: known,
+        writes: writes,
+    }
+}
+
+// The four bytes of m are stored at the front.
+fn copy4(out: &mut [u8], m: &[u8; 4])
+    requires { ⌜ 4 ≤ length (now out) ⌝ }
+    ensures { λ _. ⌜ now (out .exit) ≡ sets (now (out .entry)) 0 (getD (now (m .entry)) 0 0 ∷ getD (now (m .entry)) 1 0 ∷ getD (now (m .entry)) 2 0 ∷ getD (now (m .entry)) 3 0 ∷ []) ⌝ }
+{
+    out[0] = m[0];
+    out[1] = m[1];
+    out[2] = m[2];
+    out[3] = m[3];
+}
+
+fn put_mark(out: &mut [u8], order: Order)
+    requires { ⌜ 4 ≤ length (now out) ⌝ }
+    ensures { λ _. ⌜ now (out .exit) ≡ sets (now (out .entry)) 0 (markBytes order) ⌝ }
+{
+    match order {
+        Order::High => copy4(out, b"\x01\x02\x03\x04"),
+        Order::Low => copy4(out, b"\x04\x03\x02\x01"),
+    }
+}
+
+// The first 24 bytes of the header.
+fn put_counts(out: &mut [u8], order: Order, n: u32, writes: u32)
+    requires { ⌜ (48 ≤ length (now out)) × (n ≤ recordLimit) ⌝ }
+    ensures { λ _. ⌜ now (out .exit) ≡ sets (now (out .entry)) 0 (countBytes order n writes) ⌝ }
+{
+    put_mark(out, order);
+    word::put16(out, 4, order, 1);
+    word::put16(out, 6, order, 0);
+    word::put32(out, 8, order, n);
+    word::put32(out, 12, order, 48);
+    word::put32(out, 16, order, writes);
+    word::put32(out, 20, order, 48 + 8 * n);
+}
+
+// The six settings of 2 bytes.
+fn put_shorts(out: &mut [u8], order: Order, t: Settings)
+    requires { ⌜ 48 ≤ length (now out) ⌝ }
+    ensures { λ _. ⌜ now (out .exit) ≡ sets (now (out .entry)) 24 (shortBytes order t) ⌝ }
+{
+    word::put16(out, 24, order, t.rule);
+    word::put16(out, 26, order, t.frames);
+    word::put16(out, 28, order, t.batch);
+    word::put16(out, 30, order, t.cap);
+    word::put16(out, 32, order, t.sample);
+    word::put16(out, 34, order, t.weight);
+}
+
+// The two of 4 bytes, and the zero.
+fn put_longs(out: &mut [u8], order: Order, t: Settings)
+    requires { ⌜ 48 ≤ length (now out) ⌝ }
+    ensures { λ _. ⌜ now (out .exit) ≡ sets (now (out .entry)) 36 (longBytes order t) ⌝ }
+{
+    word::put32(out, 36, order, t.epoch);
+    word::put32(out, 40, order, t.seed);
+    word::put32(out, 44, order, 0);
+}
+
+fn put_header(out: &mut [u8], order: Order, t: Settings, n: u32, writes: u32)
+    requires { ⌜ (48 ≤ length (now out)) × (n ≤ recordLimit) ⌝ }
+    ensures { λ _. ⌜ now (out .exit) ≡ sets (now (out .entry)) 0 (headerBytes order t n writes) ⌝ }
+{
+    put_counts(out, order, n, writes);
+    put_shorts(out, order, t);
+    put_longs(out, order, t);
+}
+
+fn put_record(out: &mut [u8], at: usize, order: Order, page: u32, kind: u16)
+    requires { ⌜ at + 8 ≤ length (now out) ⌝ }
+    ensures { λ _. ⌜ now (out .exit) ≡ sets (now (out .entry)) at (recordBytes order page kind) ⌝ }
+{
+    word::put32(out, at, order, page);
+    word::put16(out, at + 4, order, kind);
+    word::put16(out, at + 6, order, 0);
+}
+
+fn put_records(out: &mut [u8], order: Order, pages: &[u32], kinds: &[u16])
+    requires { ⌜ (length (now pages) ≡ length (now kinds)) × (length (now pages) ≤ recordLimit) × (fileLength (length (now pages)) ≤ length (now out)) ⌝ }
+    ensures { λ _. ⌜ now (out .exit) ≡ sets (now (out .entry)) 48 (recordsTo order (now (pages .entry)) (now (kinds .entry)) (length (now (pages .entry)))) ⌝ }
+{
+    let mut i: usize = 0;
+    while i < pages.len() {
+        put_record(out, 48 + 8 * i, order, pages[i], kinds[i]);
+        i += 1;
+    }
+}
+
+// A whole trace, where there is room for it.
+fn put_trace(settings: Settings, order: Order, pages: &[u32], kinds: &[u16], out: &mut [u8])
+    requires { ⌜ (length (now pages) ≡ length (now kinds)) × (length (now pages) ≤ recordLimit) × (fileLength (length (now pages)) ≤ length (now out)) ⌝ }
+    ensures { λ _. ⌜ now (out .exit) ≡ sets (now (out .entry)) 0 (encode (traceFrom settings order (now (pages .entry)) (now (kinds .entry)))) ⌝ }
+{
+    let found = survey_kinds(kinds);
+    put_header(
+        out,
+        order,
+        settings,
+        pages.len() as u32,
+        found.writes as u32,
+    );
+    put_records(out, order, pages, kinds);
+}
+
+// The writer's refusal, or 0, where it is lent `room` bytes.
+fn write_refusal(settings: Settings, order: Order, pages: &[u32], kinds: &[u16], room: usize) -> u32
+    ensures { λ r. ⌜ r ≡ writeRefusal (traceFrom settings order (now (pages .entry)) (now (kinds .entry))) room ⌝ }
+{
+    if (pages.len() <= 8000) & (kinds.len() <= 8000) {
+        let found = survey_kinds(kinds);
+        let fits = demanded(48 + 8 * pages.len() <= room, refusal::NO_ROOM, 0);
+        let ranges = demanded(settings::in_range(settings), refusal::OUT_OF_RANGE, fits);
+        let known = demanded(found.known, refusal::BAD_FIELD, ranges);
+        demanded(pages.len() == kinds.len(), refusal::WRONG_LENGTH, known)
+    } else {
+        refusal::TOO_MANY
+    }
+}
+
+// A trace is written to the front of `out`: 0, or the refusal with nothing stored.
+pub fn write(settings: Settings, order: Order, pages: &[u32], kinds: &[u16], out: &mut [u8]) -> u32
+    ensures { λ r. ⌜ WrittenTo (traceFrom settings order (now (pages .entry)) (now (kinds .entry))) (now (out .entry)) r (now (out .exit)) ⌝ }
+    ensures { λ r. ⌜ ReadsBack (traceFrom settings order (now (pages .entry)) (now (kinds .entry))) r (now (out .exit)) ⌝ }
+{
+    let r = write_refusal(settings, order, pages, kinds, out.len());
+    if r == 0 {
+        put_trace(settings, order, pages, kinds, out);
+        return 0;
+    }
+    r
+}
+
+fn other_order(order: Order) -> Order
+    ensures { λ r. ⌜ r ≡ other order ⌝ }
+{
+    match order {
+        Order::High => Order::Low,
+        Order::Low => Order::High,
+    }
+}
+
+// The records of an accepted trace in an order, at their places in `out`.
+fn convert_records(bytes: &[u8], header: Header, order: Order, out: &mut [u8])
+    requires { ⌜ (checkOf (now bytes) ≡ Checked.Accepted header) × (length (now bytes) ≤ length (now out)) ⌝ }
+    ensures { λ _. ⌜ now (out .exit) ≡ sets (now (out .entry)) 48 (recordsTo order (traceOf (now (bytes .entry)) .pages) (traceOf (now (bytes .entry)) .kinds) (header .count)) ⌝ }
+{
+    let n = header.count as usize;
+    let mut i: usize = 0;
+    while i < n {
+        let record = trace::record_at(bytes, header, i);
+        put_record(out, 48 + 8 * i, order, record.page, record.kind);
+        i += 1;
+    }
+}
+
+fn convert_accepted(bytes: &[u8], header: Header, out: &mut [u8]) -> u32
+    requires { ⌜ checkOf (now bytes) ≡ Checked.Accepted header ⌝ }
+    ensures { λ r. ⌜ ConvertedTo (now (bytes .entry)) (now (out .entry)) r (now (out .exit)) ⌝ }
+{
+    if out.len() < bytes.len() {
+        return refusal::NO_ROOM;
+    }
+    let order = header.order;
+    let to = other_order(order);
+    let settings = header.settings;
+    put_header(
+        out,
+        to,
+        settings,
+        header.count,
+        trace::writes(bytes, header),
+    );
+    convert_records(bytes, header, to, out);
+    0
+}
+
+// The same trace in the other order, at the front of `out`: 0, or the refusal with nothing stored.
+pub fn convert(bytes: &[u8], out: &mut [u8]) -> u32
+    ensures { λ r. ⌜ ConvertedTo (now (bytes .entry)) (now (out .entry)) r (now (out .exit)) ⌝ }
+    ensures { λ r. ⌜ ConvertsBack (now (bytes .entry)) r (now (out .exit)) ⌝ }
+{
+    let c = trace::check(bytes);
+    match c {
+        Checked::Refused(r) => r,
+        Checked::Accepted(header) => convert_accepted(bytes, header, out),
+    }
+}

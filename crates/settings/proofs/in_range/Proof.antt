@@ -1,0 +1,14 @@
+use Rattle.settings.specs.Settings.{inRange}
+use borrow.Author.Needs.{needs}
+use Rattle.settings.proofs.in_range.Statement.{statement}
+use Rattle.settings.proofs.in_range.Tie as tie
+
+returns : tie.Need-returns
+unfolding inRange
+returns c = cc
+
+pub in-range-spec : {M : Type 1} → statement M
+in-range-spec =
+    tie.close
+    (tie.spec (search needs) (search needs) (search needs) (search needs) (search needs) (search needs) (search needs)
+    (search needs) (search needs) (search needs) (search needs) (search needs) (search needs) returns)

@@ -1,0 +1,149 @@
+-- What is known of a trace that the checker accepts: it met each demand, and its parts are those of the layout.
+use mathlib.Core.Path.{_≡_, refl, sym, ap, _∙_}
+use mathlib.Core.List.{List}
+use mathlib.Core.Bool.{Bool, true, false, _&&_}
+use Prim.Native.Nat.{ℕ, zero, suc, _+_, _*_, _≤_, _<_}
+use native.Mathlib.Omega.{arith}
+use lib.ListN.{length, getD}
+use lib.Dec.{eqb, leb}
+use borrow.Author.Tests.{eqb-true}
+use Rattle.word.specs.declared.Order.{Order}
+use Rattle.word.specs.declared.Order.the-variants.{High, Low}
+use Rattle.refusal.specs.Refusals.{demand}
+use Rattle.refusal.proofs.Laws.{met, both, neither}
+use Rattle.settings.specs.Settings.{inRange}
+use Rattle.trace.specs.Layout.{Trace, recordLimit, headerLength, fileLength, markHigh, markLow, begins, pickMark, markOf, firstZeroAt, lastZeroAt, writesAt, countAt, settingsAt, pageAt, kindAt, zeroAt, upTo, knownKinds, allZero, writesIn, traceAt, recordOf}
+use Rattle.trace.specs.Encode.{markBytes}
+use Rattle.trace.specs.Check.{surveyOf, zerosRight, layoutOf, contentOf, refusalIn, refusalMarked, refusalOf, traceOf, Decoded, decoded, decode, headerOf, checked, checkOf}
+use Rattle.trace.specs.Check.Decoded.{Whole}
+use Rattle.trace.specs.declared.Mark.{Mark}
+use Rattle.trace.specs.declared.Mark.the-variants.{Known, Unknown}
+use Rattle.trace.specs.declared.Header.{Header}
+use Rattle.trace.specs.declared.Record.{Record}
+use Rattle.trace.specs.declared.Checked.the-variants.{Refused, Accepted}
+use Rattle.trace.proofs.Lists.{length-upTo, upTo-at}
+use Rattle.trace.proofs.Laws.{LaidOut, laid-out}
+
+-- what refusals 6 to 8 demand
+pub record Filled (o : Order) (s : List ℕ) : Type 0 where
+  pub zero₁ : firstZeroAt o s ≡ 0
+  pub zero₂ : lastZeroAt o s ≡ 0
+  pub zeros : allZero (upTo (zeroAt o s) (countAt o s)) ≡ true
+  pub known : knownKinds (upTo (kindAt o s) (countAt o s)) ≡ true
+  pub writes : writesAt o s ≡ writesIn (upTo (kindAt o s) (countAt o s))
+  pub range : inRange (settingsAt o s) ≡ true
+
+filled : (o : Order) (s : List ℕ) → contentOf o s ≡ 0 → Filled o s
+unfolding contentOf surveyOf
+filled o s h =
+    let n = countAt o s in
+    let z1 = eqb (firstZeroAt o s) 0 in
+    let z2 = eqb (lastZeroAt o s) 0 in
+    let zs = allZero (upTo (zeroAt o s) n) in
+    let ks = knownKinds (upTo (kindAt o s) n) in
+    let w = writesIn (upTo (kindAt o s) n) in
+    let t7 = eqb (writesAt o s) w in
+    let t8 = inRange (settingsAt o s) in
+    let h6 = met ((z1 && z2) && (zs && ks)) 5 (demand t7 7 (demand t8 8 0)) h in
+    let h7 = met t7 6 (demand t8 8 0) (h6 .1) in
+    let h8 = met t8 7 0 (h7 .1) in
+    let b = both (z1 && z2) (zs && ks) (h6 .0) in
+    let z = both z1 z2 (b .0) in
+    let r = both zs ks (b .1) in
+    record {
+      zero₁ = eqb-true (firstZeroAt o s) 0 (z .0);
+      zero₂ = eqb-true (lastZeroAt o s) 0 (z .1);
+      zeros = r .0;
+      known = r .1;
+      writes = eqb-true (writesAt o s) w (h7 .0);
+      range = h8 .0;
+    }
+
+-- a trace in the order o that nothing refuses
+pub record Passed (o : Order) (s : List ℕ) : Type 0 where
+  pub mark : markOf s ≡ Known o
+  pub laid : LaidOut o s
+  pub fill : Filled o s
+
+by-mark : (m : Mark) (s : List ℕ) → markOf s ≡ m → refusalMarked m s ≡ 0 → (o : Order) × Passed o s
+unfolding refusalIn
+by-mark Unknown s e h = absurd (omega arith)
+by-mark (Known o) s e h =
+    let b = neither (layoutOf o s) (contentOf o s) h in
+    (o, record { mark = e; laid = laid-out o s (b .0); fill = filled o s (b .1) })
+
+pub passed : (s : List ℕ) → refusalOf s ≡ 0 → (o : Order) × Passed o s
+unfolding refusalOf
+passed s h = by-mark (markOf s) s refl (met (leb headerLength (length s)) 0 (refusalMarked (markOf s) s) h .1)
+
+-- the trace of such bytes
+pub trace-is : (o : Order) (s : List ℕ) → markOf s ≡ Known o → traceOf s ≡ traceAt o s
+unfolding traceOf
+trace-is o s e = rw e
+
+pub accepts : (r : ℕ) (t : Trace) (h : Header) → checked (decoded r t) ≡ Accepted h → (r ≡ 0) × (h ≡ headerOf t)
+accepts zero t h e = (refl, cc)
+accepts (suc r) t h e = absurd (let z : _≡_ {A = ℕ} 0 1 = cc in omega arith)
+
+refuses : (q : ℕ) (t : Trace) (r : ℕ) → checked (decoded q t) ≡ Refused r → (q ≡ r) × (r ≡ 0 → ⊥)
+refuses zero t r e = absurd (let z : _≡_ {A = ℕ} 0 1 = cc in omega arith)
+refuses (suc q) t r e = let same : suc q ≡ r = cc in (same, λ z. omega arith)
+
+pub refused-is : (s : List ℕ) (r : ℕ) → checkOf s ≡ Refused r → (refusalOf s ≡ r) × (r ≡ 0 → ⊥)
+unfolding checkOf decode
+refused-is s r e = refuses (refusalOf s) (traceOf s) r e
+
+-- ---- by the header that the checker tells
+
+pub accepted : (s : List ℕ) (h : Header) → checkOf s ≡ Accepted h → (refusalOf s ≡ 0) × (h ≡ headerOf (traceOf s))
+unfolding checkOf decode
+accepted s h e = accepts (refusalOf s) (traceOf s) h e
+
+pub accept : (s : List ℕ) (h : Header) → refusalOf s ≡ 0 → h ≡ headerOf (traceOf s) → checkOf s ≡ Accepted h
+unfolding checkOf decode
+accept s h z e = rw (z, e)
+
+pub accepted-passed : (s : List ℕ) (h : Header) → checkOf s ≡ Accepted h → Passed (h .order) s × (h .count ≡ countAt (h .order) s)
+unfolding traceAt
+accepted-passed s h e =
+    let a = accepted s h e in
+    let p = passed s (a .0) in
+    let t : h ≡ headerOf (traceAt (p .0) s) = a .1 ∙ ap headerOf (trace-is (p .0) s (p .1 .mark)) in
+    rw t (p .1, length-upTo (pageAt (p .0) s) (countAt (p .0) s))
+
+-- record i lies within the bytes
+pub record-within : (s : List ℕ) (h : Header) (i : ℕ) → checkOf s ≡ Accepted h → i < h .count → fileLength i + 8 ≤ length s
+record-within s h i e l =
+    let a = accepted-passed s h e in
+    let long = a .0 .laid .long in
+    let n = a .1 in
+    omega arith
+
+pub record-is : (s : List ℕ) (h : Header) (i : ℕ) → checkOf s ≡ Accepted h → i < h .count
+    → _≡_ {A = Record} (record { page = pageAt (h .order) s i; kind = kindAt (h .order) s i }) (recordOf (traceOf s) i)
+unfolding traceAt
+record-is s h i e l =
+    let a = accepted-passed s h e in
+    let o = h .order in
+    let n = a .1 in
+    rw (
+      trace-is o s (a .0 .mark),
+      upTo-at (pageAt o s) (countAt o s) i (omega arith),
+      upTo-at (kindAt o s) (countAt o s) i (omega arith),
+    )
+
+pub writes-are : (s : List ℕ) (h : Header) → checkOf s ≡ Accepted h → writesAt (h .order) s ≡ writesIn (traceOf s .kinds)
+unfolding traceAt
+writes-are s h e =
+    let a = accepted-passed s h e in
+    rw (trace-is (h .order) s (a .0 .mark)) (a .0 .fill .writes)
+
+pub header-within : (s : List ℕ) (h : Header) → checkOf s ≡ Accepted h → headerLength ≤ length s
+header-within s h e = let long = accepted-passed s h e .0 .laid .long in omega arith
+
+pub counts-are : (s : List ℕ) (h : Header) → checkOf s ≡ Accepted h → (length (traceOf s .pages) ≡ h .count) × (length (traceOf s .kinds) ≡ h .count)
+unfolding traceAt
+counts-are s h e =
+    let a = accepted-passed s h e in
+    let o = h .order in
+    rw (trace-is o s (a .0 .mark), a .1) (length-upTo (pageAt o s) (countAt o s), length-upTo (kindAt o s) (countAt o s))

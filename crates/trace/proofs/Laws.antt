@@ -1,0 +1,59 @@
+-- Laws of the checks: what is known where nothing is refused, and the answer where something is.
+use mathlib.Core.Path.{_≡_, refl, sym, ap, _∙_}
+use mathlib.Core.List.{List}
+use mathlib.Core.Bool.{Bool, true, false, _&&_}
+use Prim.Native.Nat.{ℕ, zero, suc, _≤_}
+use native.Mathlib.Omega.{arith}
+use lib.ListN.{length}
+use lib.Dec.{eqb, leb}
+use borrow.Author.Tests.{leb-true, eqb-true}
+use Rattle.word.specs.declared.Order.{Order}
+use Rattle.refusal.specs.Refusals.{demand, orElse}
+use Rattle.refusal.proofs.Laws.{met, both}
+use Rattle.trace.specs.Layout.{Trace, edition, recordLimit, headerLength, fileLength, editionAt, countAt, offsetAt, lengthAt, pageAt, settingsAt, traceAt}
+use Rattle.trace.specs.Check.{layoutOf, lengthsRight, decoded, checked, stored}
+use Rattle.trace.specs.declared.Checked.the-variants.{Refused, Accepted}
+use Rattle.trace.proofs.Lists.{length-upTo}
+
+-- what refusals 3 to 5 demand
+pub record LaidOut (o : Order) (s : List ℕ) : Type 0 where
+  pub edition-is : editionAt o s ≡ edition
+  pub few : countAt o s ≤ recordLimit
+  pub offset : offsetAt o s ≡ headerLength
+  pub field : lengthAt o s ≡ fileLength (countAt o s)
+  pub long : length s ≡ fileLength (countAt o s)
+
+pub laid-out : (o : Order) (s : List ℕ) → layoutOf o s ≡ 0 → LaidOut o s
+unfolding layoutOf
+laid-out o s h =
+    let n = countAt o s in
+    let off = eqb (offsetAt o s) headerLength in
+    let fld = eqb (lengthAt o s) (fileLength n) in
+    let len = eqb (length s) (fileLength n) in
+    let h3 = met (eqb (editionAt o s) edition) 2 (demand (leb n recordLimit) 4 (demand (lengthsRight o s) 5 0)) h in
+    let h4 = met (leb n recordLimit) 3 (demand (lengthsRight o s) 5 0) (h3 .1) in
+    let h5 = met (lengthsRight o s) 4 0 (h4 .1) in
+    let b = both off (fld && len) (h5 .0) in
+    let b′ = both fld len (b .1) in
+    record {
+      edition-is = eqb-true (editionAt o s) edition (h3 .0);
+      few = leb-true n recordLimit (h4 .0);
+      offset = eqb-true (offsetAt o s) headerLength (b .0);
+      field = eqb-true (lengthAt o s) (fileLength n) (b′ .0);
+      long = eqb-true (length s) (fileLength n) (b′ .1);
+    }
+
+-- a refusal is the answer
+pub refused : (r : ℕ) (t : Trace) → (r ≡ 0 → ⊥) → Refused r ≡ checked (decoded r t)
+refused zero t h = absurd (h refl)
+refused (suc r) t h = refl
+
+-- and nothing is stored
+pub unstored : (r : ℕ) (lent written : List ℕ) → (r ≡ 0 → ⊥) → lent ≡ stored r lent written
+unstored zero lent written h = absurd (h refl)
+unstored (suc r) lent written h = refl
+
+-- the header that the checker tells is that of the trace
+pub told : (o : Order) (s : List ℕ) → Accepted (record { settings = settingsAt o s; order = o; count = countAt o s }) ≡ checked (decoded 0 (traceAt o s))
+unfolding traceAt
+told o s = rw (length-upTo (pageAt o s) (countAt o s))

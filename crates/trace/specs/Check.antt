@@ -1,0 +1,127 @@
+-- Trace checks run 1 to 8 in that order; what the checker and the reader answer.
+use Prim.Native.Nat.{ℕ, zero, suc}
+use mathlib.Core.List.{List}
+use mathlib.Core.Bool.{Bool, _&&_}
+use mathlib.Core.Path.{_≡_}
+use lib.ListN.{length, take}
+use lib.Seq.{sets}
+use lib.Dec.{eqb, leb}
+use Rattle.word.specs.declared.Order.{Order}
+use Rattle.word.specs.declared.Order.the-variants.{High}
+use Rattle.refusal.specs.Refusals.{demand, orElse, tooShort, unknownMark, otherEdition, tooMany, wrongLength, badField, wrongWrites, outOfRange, noRoom}
+use Rattle.settings.specs.Settings.{inRange}
+use Rattle.trace.specs.Layout.{Trace, edition, recordLimit, headerLength, fileLength, markOf, editionAt, firstZeroAt, countAt, offsetAt, writesAt, lengthAt, settingsAt, lastZeroAt, kindAt, zeroAt, knownKinds, writesIn, allZero, upTo, traceAt}
+use Rattle.trace.specs.Encode.{encode}
+use Rattle.trace.specs.declared.Mark.{Mark}
+use Rattle.trace.specs.declared.Mark.the-variants.{Known, Unknown}
+use Rattle.trace.specs.declared.Header.{Header}
+use Rattle.trace.specs.declared.Survey.{Survey}
+use Rattle.trace.specs.declared.Checked.{Checked}
+use Rattle.trace.specs.declared.Checked.the-variants.{Refused, Accepted}
+
+-- what one pass over the first n records finds: no bad kind, zero fields zero, how many writes
+unfoldable pub surveyOf : Order → List ℕ → ℕ → Survey
+surveyOf o s n = record { known = knownKinds (upTo (kindAt o s) n); zeros = allZero (upTo (zeroAt o s) n); writes = writesIn (upTo (kindAt o s) n) }
+
+-- offset, length field and actual length
+abbrev pub lengthsRight : Order → List ℕ → Bool
+lengthsRight o s =
+    eqb (offsetAt o s) headerLength && (eqb (lengthAt o s) (fileLength (countAt o s)) && eqb (length s) (fileLength (countAt o s)))
+
+-- refusals 3 to 5: edition, record count, offset and lengths
+unfoldable pub layoutOf : Order → List ℕ → ℕ
+layoutOf o s =
+    demand (eqb (editionAt o s) edition) otherEdition
+    (demand (leb (countAt o s) recordLimit) tooMany
+    (demand (lengthsRight o s) wrongLength 0))
+
+-- the zero fields of the header
+abbrev pub zerosRight : Order → List ℕ → Bool
+zerosRight o s = eqb (firstZeroAt o s) 0 && eqb (lastZeroAt o s) 0
+
+-- refusals 6 to 8: zero fields and kinds, number of writes, settings
+unfoldable pub contentOf : Order → List ℕ → ℕ
+contentOf o s =
+    demand (zerosRight o s && (surveyOf o s (countAt o s) .zeros && surveyOf o s (countAt o s) .known)) badField
+    (demand (eqb (writesAt o s) (surveyOf o s (countAt o s) .writes)) wrongWrites
+    (demand (inRange (settingsAt o s)) outOfRange 0))
+
+-- refusals 3 to 8 of bytes in a known order
+unfoldable pub refusalIn : Order → List ℕ → ℕ
+refusalIn o s = orElse (layoutOf o s) (contentOf o s)
+
+-- refusals 2 to 8
+abbrev pub refusalMarked : Mark → List ℕ → ℕ
+refusalMarked (Known o) s = refusalIn o s
+refusalMarked Unknown s = unknownMark
+
+-- the refusal of a trace, 1 to 8, or 0
+unfoldable pub refusalOf : List ℕ → ℕ
+refusalOf s = demand (leb headerLength (length s)) tooShort (refusalMarked (markOf s) s)
+
+-- the order that a mark names; without one it has no meaning
+abbrev pub orderMarked : Mark → Order
+orderMarked (Known o) = o
+orderMarked Unknown = High
+
+-- the trace that bytes hold; where they are refused it has no meaning
+unfoldable pub traceOf : List ℕ → Trace
+traceOf s = traceAt (orderMarked (markOf s)) s
+
+-- a trace read, or its refusal
+pub data Decoded : Type 0 where
+  Whole : Trace → Decoded
+  Faulty : ℕ → Decoded
+
+-- the trace where nothing is refused
+abbrev pub decoded : ℕ → Trace → Decoded
+decoded zero t = Whole t
+decoded (suc r) t = Faulty (suc r)
+
+-- reading a trace
+unfoldable pub decode : List ℕ → Decoded
+decode s = decoded (refusalOf s) (traceOf s)
+
+-- settings, order and record count of a trace
+abbrev pub headerOf : Trace → Header
+headerOf t = record { settings = t .settings; order = t .order; count = length (t .pages) }
+
+-- accepted with settings, order and record count, or refused
+abbrev pub checked : Decoded → Checked
+checked (Whole t) = Accepted (headerOf t)
+checked (Faulty r) = Refused r
+
+-- the checker's answer
+unfoldable pub checkOf : List ℕ → Checked
+checkOf s = checked (decode s)
+
+-- the paper's number of an answer: 0, or the refusal
+abbrev pub numberOfChecked : Checked → ℕ
+numberOfChecked (Refused r) = r
+numberOfChecked (Accepted h) = 0
+
+-- the reader needs n places in each list: after the trace's refusals 13
+unfoldable pub readRefusal : List ℕ → ℕ → ℕ → ℕ
+readRefusal s pages kinds =
+    orElse (refusalOf s) (demand (leb (length (traceOf s .pages)) pages && leb (length (traceOf s .pages)) kinds) noRoom 0)
+
+-- the reader's answer, where it is lent so many places for pages and for kinds
+unfoldable pub readOf : List ℕ → ℕ → ℕ → Checked
+readOf s pages kinds = checked (decoded (readRefusal s pages kinds) (traceOf s))
+
+-- what stands in a lent list: what was written at the front of what was there, or on a refusal what was there
+abbrev pub stored : ℕ → List ℕ → List ℕ → List ℕ
+stored zero lent written = sets lent 0 written
+stored (suc r) lent written = lent
+
+-- the reader on lent lists: its answer, and every place of both lists afterwards
+pub record ReadInto (s pages kinds : List ℕ) (answer : Checked) (pages′ kinds′ : List ℕ) : Type 0 where
+  pub answers : answer ≡ readOf s (length pages) (length kinds)
+  pub pages-hold : pages′ ≡ stored (readRefusal s (length pages) (length kinds)) pages (traceOf s .pages)
+  pub kinds-hold : kinds′ ≡ stored (readRefusal s (length pages) (length kinds)) kinds (traceOf s .kinds)
+
+-- reading, then writing: where the reader accepts, what it gives has the encoding that was read
+abbrev pub WritesAgain : List ℕ → Checked → List ℕ → List ℕ → Type 0
+WritesAgain s answer pages kinds =
+    (h : Header) → answer ≡ Accepted h
+    → encode (record { settings = h .settings; order = h .order; pages = take (h .count) pages; kinds = take (h .count) kinds }) ≡ s

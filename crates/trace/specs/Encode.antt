@@ -1,0 +1,67 @@
+-- One trace in one order has one encoding: the bytes of the layout, in its order.
+use Prim.Native.Nat.{ℕ, zero, suc, _^_, _≤_, _<_}
+use mathlib.Core.List.{List, [], _++_}
+use mathlib.Core.Bool.{true}
+use mathlib.Core.Path.{_≡_}
+use lib.ListN.{length, getD}
+use Rattle.word.specs.Number.{bytesOf}
+use Rattle.word.specs.declared.Order.{Order}
+use Rattle.word.specs.declared.Order.the-variants.{High, Low}
+use Rattle.settings.specs.Settings.{inRange}
+use Rattle.settings.specs.declared.Settings.{Settings}
+use Rattle.trace.specs.Layout.{Trace, edition, recordLimit, headerLength, fileLength, markHigh, markLow, knownKinds, writesIn}
+
+-- the mark of an order
+abbrev pub markBytes : Order → List ℕ
+markBytes High = markHigh
+markBytes Low = markLow
+
+-- mark, edition, zero, record count, record offset, number of write records, file length
+unfoldable pub countBytes : Order → ℕ → ℕ → List ℕ
+countBytes o n writes =
+    (((((markBytes o ++ bytesOf o 2 edition) ++ bytesOf o 2 0) ++ bytesOf o 4 n) ++ bytesOf o 4 headerLength) ++ bytesOf o 4 writes) ++ bytesOf o 4 (fileLength n)
+
+-- rule, frames, batch size, count cap, sample size, write weight
+unfoldable pub shortBytes : Order → Settings → List ℕ
+shortBytes o t =
+    ((((bytesOf o 2 (t .rule) ++ bytesOf o 2 (t .frames)) ++ bytesOf o 2 (t .batch)) ++ bytesOf o 2 (t .cap)) ++ bytesOf o 2 (t .sample)) ++ bytesOf o 2 (t .weight)
+
+-- epoch length, seed, zero
+unfoldable pub longBytes : Order → Settings → List ℕ
+longBytes o t = (bytesOf o 4 (t .epoch) ++ bytesOf o 4 (t .seed)) ++ bytesOf o 4 0
+
+-- the header
+unfoldable pub headerBytes : Order → Settings → ℕ → ℕ → List ℕ
+headerBytes o t n writes = (countBytes o n writes ++ shortBytes o t) ++ longBytes o t
+
+-- a record: page, kind, zero
+unfoldable pub recordBytes : Order → ℕ → ℕ → List ℕ
+recordBytes o page kind = (bytesOf o 4 page ++ bytesOf o 2 kind) ++ bytesOf o 2 0
+
+-- the first n records
+abbrev pub recordsTo : Order → List ℕ → List ℕ → ℕ → List ℕ
+recordsTo o pages kinds zero = []
+recordsTo o pages kinds (suc i) = recordsTo o pages kinds i ++ recordBytes o (getD pages i 0) (getD kinds i 0)
+
+-- the header, then the records
+unfoldable pub encode : Trace → List ℕ
+encode t =
+    headerBytes (t .order) (t .settings) (length (t .pages)) (writesIn (t .kinds)) ++ recordsTo (t .order) (t .pages) (t .kinds) (length (t .pages))
+
+-- the other order
+abbrev pub other : Order → Order
+other High = Low
+other Low = High
+
+-- converting writes the same trace in the other order
+abbrev pub turned : Trace → Trace
+turned t = record { settings = t .settings; order = other (t .order); pages = t .pages; kinds = t .kinds }
+
+-- a trace that the layout can hold: lists of one length within the limit, known kinds, settings in range, pages and seed of 4 bytes
+pub record Proper (t : Trace) : Type 0 where
+  pub same : length (t .pages) ≡ length (t .kinds)
+  pub few : length (t .pages) ≤ recordLimit
+  pub known : knownKinds (t .kinds) ≡ true
+  pub range : inRange (t .settings) ≡ true
+  pub seed : t .settings .seed < 256 ^ 4
+  pub page : (i : ℕ) → getD (t .pages) i 0 < 256 ^ 4

@@ -1,0 +1,263 @@
+// Traces of edition 1: a header of 48 bytes, then records of 8 bytes, in either byte order.
+ghost use mathlib.Core.Path.{_≡_};
+ghost use Prim.Native.Nat.{_≤_, _<_};
+ghost use lib.ListN.{length};
+ghost use lib.Seq.{sets};
+ghost use Rattle.trace.specs.Layout.{recordLimit, fileLength, begins, pickMark, markOf, settingsAt, countAt, isWrite, writesIn, traceAt, recordOf};
+ghost use Rattle.trace.specs.Check.{surveyOf, layoutOf, contentOf, refusalIn, checked, decoded, checkOf, traceOf, ReadInto, WritesAgain};
+use refusal::demanded;
+use settings::Settings;
+use word::Order;
+
+// What the first four bytes say.
+pub enum Mark {
+    Known(Order),
+    Unknown,
+}
+
+// What the checker tells of a trace that it accepts.
+pub struct Header {
+    pub settings: Settings,
+    pub order: Order,
+    pub count: u32,
+}
+
+pub enum Checked {
+    Refused(u32),
+    Accepted(Header),
+}
+
+// What one pass over the records finds.
+pub struct Survey {
+    pub known: bool,
+    pub zeros: bool,
+    pub writes: u32,
+}
+
+pub struct Record {
+    pub page: u32,
+    pub kind: u16,
+}
+
+const RECORD_LIMIT: u32 = 8000;
+
+// Whether s begins with the four bytes of m.
+fn begins_with(s: &[u8], m: &[u8; 4]) -> bool
+    requires { ⌜ 4 ≤ length (now s) ⌝ }
+    ensures { λ r. ⌜ r ≡ begins (now (s .entry)) (now (m .entry)) ⌝ }
+{
+    (s[0] == m[0]) & ((s[1] == m[1]) & ((s[2] == m[2]) & (s[3] == m[3])))
+}
+
+fn mark_found(high: bool, low: bool) -> Mark
+    ensures { λ r. ⌜ r ≡ pickMark high (Mark.Known Order.High) (pickMark low (Mark.Known Order.Low) Mark.Unknown) ⌝ }
+{
+    if high {
+        return Mark::Known(Order::High);
+    }
+    if low {
+        return Mark::Known(Order::Low);
+    }
+    Mark::Unknown
+}
+
+fn mark_of(s: &[u8]) -> Mark
+    requires { ⌜ 4 ≤ length (now s) ⌝ }
+    ensures { λ r. ⌜ r ≡ markOf (now (s .entry)) ⌝ }
+{
+    mark_found(
+        begins_with(s, b"\x01\x02\x03\x04"),
+        begins_with(s, b"\x04\x03\x02\x01"),
+    )
+}
+
+fn settings_at(s: &[u8], order: Order) -> Settings
+    requires { ⌜ 48 ≤ length (now s) ⌝ }
+    ensures { λ r. ⌜ r ≡ settingsAt order (now (s .entry)) ⌝ }
+{
+    Settings {
+        rule: word::get16(s, 24, order),
+        frames: word::get16(s, 26, order),
+        batch: word::get16(s, 28, order),
+        cap: word::get16(s, 30, order),
+        sample: word::get16(s, 32, order),
+        weight: word::get16(s, 34, order),
+        epoch: word::get32(s, 36, order),
+        seed: word::get32(s, 40, order),
+    }
+}
+
+// Refusals 3 to 5.
+fn layout_of(s: &[u8], order: Order) -> u32
+    requires { ⌜ 48 ≤ length (now s) ⌝ }
+    ensures { λ r. ⌜ r ≡ layoutOf order (now (s .entry)) ⌝ }
+{
+    let edition = word::get16(s, 4, order);
+    let n = word::get32(s, 8, order);
+    let offset = word::get32(s, 12, order);
+    let long = word::get32(s, 20, order);
+    let size = 48 + 8 * (n as usize);
+    let lengths = (offset == 48) & ((long as usize == size) & (s.len() == size));
+    let lengths_right = demanded(lengths, refusal::WRONG_LENGTH, 0);
+    let few = demanded(n <= RECORD_LIMIT, refusal::TOO_MANY, lengths_right);
+    demanded(edition == 1, refusal::OTHER_EDITION, few)
+}
+
+// 1 for a write.
+pub fn count_write(kind: u16) -> u32
+    ensures { λ r. ⌜ (r ≡ isWrite kind) × (r ≤ 1) ⌝ }
+{
+    match kind {
+        0 => 0,
+        1 => 1,
+        2..=65535 => 0,
+    }
+}
+
+// One pass over the first n records.
+fn survey_of(s: &[u8], order: Order, n: usize) -> Survey
+    requires { ⌜ (n ≤ recordLimit) × (fileLength n ≤ length (now s)) ⌝ }
+    ensures { λ r. ⌜ r ≡ surveyOf order (now (s .entry)) n ⌝ }
+{
+    let mut known = true;
+    let mut zeros = true;
+    let mut writes: u32 = 0;
+    let mut i: usize = 0;
+    while i < n {
+        let at = 48 + 8 * i;
+        let kind = word::get16(s, at + 4, order);
+        known = known & (kind <= 3);
+        zeros = zeros & (word::get16(s, at + 6, order) == 0);
+        writes = writes + count_write(kind);
+        i += 1;
+    }
+    Survey {
+        known: known,
+        zeros: zeros,
+        writes: writes,
+    }
+}
+
+// Refusals 6 to 8, of a trace whose lengths are right.
+fn content_of(s: &[u8], order: Order) -> u32
+    requires { ⌜ (countAt order (now s) ≤ recordLimit) × (length (now s) ≡ fileLength (countAt order (now s))) ⌝ }
+    ensures { λ r. ⌜ r ≡ contentOf order (now (s .entry)) ⌝ }
+{
+    let n = word::get32(s, 8, order);
+    let writes = word::get32(s, 16, order);
+    let zeros = (word::get16(s, 6, order) == 0) & (word::get32(s, 44, order) == 0);
+    let found = survey_of(s, order, n as usize);
+    let ranges = demanded(
+        settings::in_range(settings_at(s, order)),
+        refusal::OUT_OF_RANGE,
+        0,
+    );
+    let counted = demanded(writes == found.writes, refusal::WRONG_WRITES, ranges);
+    demanded(
+        zeros & (found.zeros & found.known),
+        refusal::BAD_FIELD,
+        counted,
+    )
+}
+
+// Refusals 3 to 8, or 0.
+fn refusal_in(s: &[u8], order: Order) -> u32
+    requires { ⌜ 48 ≤ length (now s) ⌝ }
+    ensures { λ r. ⌜ r ≡ refusalIn order (now (s .entry)) ⌝ }
+{
+    let r = layout_of(s, order);
+    if r == 0 { content_of(s, order) } else { r }
+}
+
+fn checked_in(s: &[u8], order: Order) -> Checked
+    requires { ⌜ 48 ≤ length (now s) ⌝ }
+    ensures { λ r. ⌜ r ≡ checked (decoded (refusalIn order (now (s .entry))) (traceAt order (now (s .entry)))) ⌝ }
+{
+    let r = refusal_in(s, order);
+    if r == 0 {
+        let t = settings_at(s, order);
+        Checked::Accepted(Header {
+            settings: t,
+            order: order,
+            count: word::get32(s, 8, order),
+        })
+    } else {
+        Checked::Refused(r)
+    }
+}
+
+// A trace's settings, order and record count, or its first refusal.
+pub fn check(bytes: &[u8]) -> Checked
+    ensures { λ r. ⌜ r ≡ checkOf (now (bytes .entry)) ⌝ }
+{
+    if bytes.len() < 48 {
+        return Checked::Refused(refusal::TOO_SHORT);
+    }
+    let m = mark_of(bytes);
+    match m {
+        Mark::Known(order) => checked_in(bytes, order),
+        Mark::Unknown => Checked::Refused(refusal::UNKNOWN_MARK),
+    }
+}
+
+// Record i of an accepted trace.
+pub fn record_at(bytes: &[u8], header: Header, i: usize) -> Record
+    requires { ⌜ (checkOf (now bytes) ≡ Checked.Accepted header) × (i < header .count) ⌝ }
+    ensures { λ r. ⌜ r ≡ recordOf (traceOf (now (bytes .entry))) i ⌝ }
+{
+    let order = header.order;
+    let at = 48 + 8 * i;
+    Record {
+        page: word::get32(bytes, at, order),
+        kind: word::get16(bytes, at + 4, order),
+    }
+}
+
+// How many records of an accepted trace are writes.
+pub fn writes(bytes: &[u8], header: Header) -> u32
+    requires { ⌜ checkOf (now bytes) ≡ Checked.Accepted header ⌝ }
+    ensures { λ r. ⌜ r ≡ writesIn (traceOf (now (bytes .entry)) .kinds) ⌝ }
+{
+    let order = header.order;
+    word::get32(bytes, 16, order)
+}
+
+// The pages and kinds of an accepted trace, at the front of two lent lists.
+fn read_records(bytes: &[u8], header: Header, pages: &mut [u32], kinds: &mut [u16])
+    requires { ⌜ (checkOf (now bytes) ≡ Checked.Accepted header) × (header .count ≤ length (now pages)) × (header .count ≤ length (now kinds)) ⌝ }
+    ensures { λ _. ⌜ now (pages .exit) ≡ sets (now (pages .entry)) 0 (traceOf (now (bytes .entry)) .pages) ⌝ }
+    ensures { λ _. ⌜ now (kinds .exit) ≡ sets (now (kinds .entry)) 0 (traceOf (now (bytes .entry)) .kinds) ⌝ }
+{
+    let n = header.count as usize;
+    let mut i: usize = 0;
+    while i < n {
+        let record = record_at(bytes, header, i);
+        pages[i] = record.page;
+        kinds[i] = record.kind;
+        i += 1;
+    }
+}
+
+fn read_accepted(bytes: &[u8], header: Header, pages: &mut [u32], kinds: &mut [u16]) -> Checked
+    requires { ⌜ checkOf (now bytes) ≡ Checked.Accepted header ⌝ }
+    ensures { λ r. ⌜ ReadInto (now (bytes .entry)) (now (pages .entry)) (now (kinds .entry)) r (now (pages .exit)) (now (kinds .exit)) ⌝ }
+{
+    let n = header.count as usize;
+    if (n <= pages.len()) & (n <= kinds.len()) {
+        read_records(bytes, header, pages, kinds);
+        return Checked::Accepted(header);
+    }
+    Checked::Refused(refusal::NO_ROOM)
+}
+
+// The checker's answer, with the records in two lent lists.
+pub fn read(bytes: &[u8], pages: &mut [u32], kinds: &mut [u16]) -> Checked
+    ensures { λ r. ⌜ ReadInto (now (bytes .entry)) (now (pages .entry)) (now (kinds .entry)) r (now (pages .exit)) (now (kinds .exit)) ⌝ }
+    ensures { λ r. ⌜ WritesAgain (now (bytes .entry)) r (now (pages .exit)) (now (kinds .exit)) ⌝ }
+{
+    let c = check(bytes);
+    match c {
+        Checked::Refused(r) => Checked::Refused(r),
+        Checked::Accepted(header) => read_accepted(bytes, header, pages, kinds),
+    }
+}
