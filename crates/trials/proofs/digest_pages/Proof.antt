@@ -1,0 +1,18 @@
+use Prim.Native.Nat.{ℕ, suc, _+_, _-_, _*_, _≤_, _<_}
+use mathlib.Core.Path.{_≡_, refl, ap, sym, _∙_}
+use native.Mathlib.Omega.{arith}
+use borrow.Author.Needs.{needs}
+use Rattle.trials.proofs.digest_pages.Statement.{statement}
+use Rattle.trials.proofs.digest_pages.Tie as tie
+
+abbrev Inv-loop : tie.InvT-loop
+Inv-loop s h₀ i₀ h i = h < 4294967291
+
+abbrev μ-loop : tie.MeasureT-loop
+μ-loop s h₀ i₀ h i = 8001 - i
+
+pub digest-pages-spec : {M : Type 1} → statement M
+digest-pages-spec =
+    tie.close
+    (tie.spec Inv-loop μ-loop (λ c. search needs) (λ c. search needs) (λ c. search needs) (λ c κs. search needs)
+    (λ c. search needs) (λ c. search needs) (λ c. search needs) (λ c. search needs))

@@ -1,0 +1,59 @@
+/* Hitchyawl for a C transport: check a trace of edition 1, and put it into the other byte order.
+ *
+ * Both calls are exported by the archive of the crate `host`. They keep no state, allocate nothing,
+ * and may run in several threads at once as long as no thread's `out` is a buffer of another's call.
+ *
+ * A buffer is a pointer and its length in bytes. The memory has to be there in full, may stand at
+ * any address (nothing is asked of its alignment), and the two buffers of a call must not overlap.
+ * Where the length is 0 the pointer may be anything, a null pointer too: it is not followed.
+ */
+#ifndef HITCHYAWL_H
+#define HITCHYAWL_H
+
+#include <stddef.h>
+#include <stdint.h>
+
+#ifdef __cplusplus
+extern "C" {
+#endif
+
+/* The numbered refusals. The calls below give 1 to 8, and hitchyawl_convert 13 too; the others are
+ * given elsewhere by the bench and stand here so that each number has one name. */
+enum hitchyawl_refusal {
+    HITCHYAWL_ACCEPTED = 0,
+    HITCHYAWL_TOO_SHORT = 1,             /* under 48 bytes */
+    HITCHYAWL_UNKNOWN_MARK = 2,          /* unknown mark */
+    HITCHYAWL_WRONG_EDITION = 3,         /* edition not 1 */
+    HITCHYAWL_TOO_MANY_RECORDS = 4,      /* n above 8,000 */
+    HITCHYAWL_WRONG_LENGTH = 5,          /* offset, length field or actual length wrong;
+                                            writer's lists of unequal length */
+    HITCHYAWL_BAD_ZERO_OR_KIND = 6,      /* a zero field not zero, or a bad kind */
+    HITCHYAWL_WRONG_WRITE_COUNT = 7,     /* write count differs from the records */
+    HITCHYAWL_SETTING_OUT_OF_RANGE = 8,  /* a setting out of range */
+    HITCHYAWL_REFERENCES_USED_UP = 9,    /* k is 50,000 at a reference */
+    HITCHYAWL_ALL_FRAMES_PINNED = 10,    /* a miss with all f frames in use and pinned */
+    HITCHYAWL_NOT_PINNED = 11,           /* unpin of a page not resident or with pin count 0 */
+    HITCHYAWL_TOO_MANY_PINS = 12,        /* pin of a resident page with pin count 255 */
+    HITCHYAWL_BUFFER_TOO_SHORT = 13,     /* a lent buffer is too short */
+    HITCHYAWL_POOL_NOT_SOUND = 14,       /* pool not sound, or a count of the tally handed in
+                                            above 4,000,000,000 */
+    HITCHYAWL_SETTINGS_DIFFER = 15       /* trace settings differ from the pool's */
+};
+
+/* Whether the `length` bytes are a trace, in either byte order.
+ *
+ * Returns 0, or the first of the refusals 1 to 8 that fits. Stores nothing. */
+uint32_t hitchyawl_check(const uint8_t *bytes, size_t length);
+
+/* The same trace in the other byte order.
+ *
+ * Returns 0 with the converted trace, again `length` bytes, at the front of `out`; the bytes beyond
+ * it keep their contents. Else returns the first of the refusals 1 to 8 that fits, then 13 where
+ * `room`, the length of `out`, is less than `length`; a refused call stores nothing. */
+uint32_t hitchyawl_convert(const uint8_t *bytes, size_t length, uint8_t *out, size_t room);
+
+#ifdef __cplusplus
+}
+#endif
+
+#endif

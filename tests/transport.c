@@ -1,0 +1,440 @@
+/* Calls the exports of the crate `host` as a C transport does, and holds them to their header.
+ *
+ *   transport NAME-high.trace NAME-low.trace ...
+ *
+ * Each pair is one good trace in both orders. The first, of 1 to 7,999 records, is also damaged, cut
+ * and given too little room. The first expectation that fails ends the program. */
+#include "hitchyawl.h"
+#include "trace_bytes.h"
+
+#include <stdarg.h>
+#include <stdio.h>
+#include <stdlib.h>
+#include <string.h>
+
+/* Bytes of a buffer beyond what a call may store to. */
+enum { BEYOND = 24 };
+
+struct buffer {
+    uint8_t *memory; /* as it was allocated */
+    uint8_t *at;     /* where the bytes start */
+    size_t length;
+};
+
+static unsigned long held;
+static char case_name[256];
+
+static void name_case(const char *format, ...)
+{
+    va_list words;
+    va_start(words, format);
+    vsnprintf(case_name, sizeof case_name, format, words);
+    va_end(words);
+}
+
+static void fail(const char *format, ...)
+{
+    va_list words;
+    fprintf(stderr, "transport: %s: ", case_name);
+    va_start(words, format);
+    vfprintf(stderr, format, words);
+    va_end(words);
+    fputc('\n', stderr);
+    exit(1);
+}
+
+static void expect_answer(const char *call, uint32_t expected, uint32_t got)
+{
+    if (got != expected)
+        fail("%s: expected %lu, got %lu", call, (unsigned long)expected, (unsigned long)got);
+    held++;
+}
+
+static void expect_bytes(const char *what, const uint8_t *expected, const uint8_t *got, size_t length)
+{
+    for (size_t i = 0; i < length; i++)
+        if (got[i] != expected[i])
+            fail("%s: expected %02x at byte %zu, got %02x", what, expected[i], i, got[i]);
+    held++;
+}
+
+/* ---- buffers */
+
+/* `length` bytes, `shift` bytes into an allocation that ends where they end. A shift of 1 makes the address odd. */
+static struct buffer new_buffer(size_t length, size_t shift)
+{
+    struct buffer made;
+    made.memory = malloc(shift + length > 0 ? shift + length : 1);
+    if (made.memory == NULL)
+        fail("no memory for %zu bytes", length);
+    made.at = made.memory + shift;
+    made.length = length;
+    return made;
+}
+
+static struct buffer copy_of(const uint8_t *bytes, size_t length, size_t shift)
+{
+    struct buffer made = new_buffer(length, shift);
+    memcpy(made.at, bytes, length);
+    return made;
+}
+
+/* What an untouched place holds: another byte than its neighbours, so that a moved byte shows. */
+static uint8_t untouched(size_t place)
+{
+    return (uint8_t)(0xa5 + 7 * place);
+}
+
+static struct buffer untouched_buffer(size_t length, size_t shift)
+{
+    struct buffer made = new_buffer(length, shift);
+    for (size_t i = 0; i < length; i++)
+        made.at[i] = untouched(i);
+    return made;
+}
+
+static void expect_untouched(struct buffer out, size_t from)
+{
+    for (size_t i = from; i < out.length; i++)
+        if (out.at[i] != untouched(i))
+            fail("convert: expected byte %zu of out left at %02x, got %02x", i, untouched(i), out.at[i]);
+    held++;
+}
+
+static void release(struct buffer buffer)
+{
+    free(buffer.memory);
+}
+
+static struct buffer read_file(const char *path)
+{
+    name_case("%s", path);
+    struct buffer read = new_buffer(record_at(MOST_RECORDS) + 1, 0);
+    FILE *file = fopen(path, "rb");
+    if (file == NULL)
+        fail("expected a file that opens, got none");
+    read.length = fread(read.at, 1, read.length, file);
+    if (ferror(file))
+        fail("expected bytes, got an error in reading");
+    fclose(file);
+    return read;
+}
+
+/* ---- what the calls owe */
+
+/* Both calls refuse the bytes by this number, whatever the room, and nothing is stored. */
+static void expect_refused(const uint8_t *bytes, size_t length, uint32_t refusal)
+{
+    struct buffer out = untouched_buffer(length + BEYOND, 0);
+    expect_answer("check", refusal, hitchyawl_check(bytes, length));
+    expect_answer("convert", refusal, hitchyawl_convert(bytes, length, out.at, out.length));
+    expect_untouched(out, 0);
+    expect_answer("convert without room", refusal, hitchyawl_convert(bytes, length, out.at, 0));
+    expect_untouched(out, 0);
+    release(out);
+}
+
+/* The bytes `from` are accepted, and become the bytes `to` at the front of a buffer with `beyond` more. */
+static void expect_converted(struct buffer from, struct buffer to, size_t beyond, size_t shift)
+{
+    struct buffer out = untouched_buffer(from.length + beyond, shift);
+    struct buffer before = copy_of(from.at, from.length, shift);
+    expect_answer("check", HITCHYAWL_ACCEPTED, hitchyawl_check(before.at, before.length));
+    expect_answer("convert", HITCHYAWL_ACCEPTED, hitchyawl_convert(before.at, before.length, out.at, out.length));
+    expect_bytes("convert's out", to.at, out.at, to.length);
+    expect_untouched(out, to.length);
+    expect_bytes("convert's input afterwards", from.at, before.at, from.length);
+    release(before);
+    release(out);
+}
+
+/* The bytes are accepted, and converting them twice gives them again. */
+static void expect_there_and_back(struct buffer trace)
+{
+    struct buffer there = untouched_buffer(trace.length, 0);
+    struct buffer back = untouched_buffer(trace.length, 0);
+    expect_answer("check", HITCHYAWL_ACCEPTED, hitchyawl_check(trace.at, trace.length));
+    expect_answer("convert there", HITCHYAWL_ACCEPTED,
+                  hitchyawl_convert(trace.at, trace.length, there.at, there.length));
+    expect_answer("check there", HITCHYAWL_ACCEPTED, hitchyawl_check(there.at, there.length));
+    expect_answer("convert back", HITCHYAWL_ACCEPTED,
+                  hitchyawl_convert(there.at, there.length, back.at, back.length));
+    expect_bytes("there and back", trace.at, back.at, trace.length);
+    release(there);
+    release(back);
+}
+
+/* ---- a good trace */
+
+static void try_pair(struct buffer high, struct buffer low, const char *name)
+{
+    static const char *const addresses[] = {"even", "odd"};
+    for (size_t shift = 0; shift <= 1; shift++)
+        for (size_t beyond = 0; beyond <= BEYOND; beyond += BEYOND) {
+            name_case("%s to low, %zu bytes beyond, at an %s address", name, beyond, addresses[shift]);
+            expect_converted(high, low, beyond, shift);
+            name_case("%s to high, %zu bytes beyond, at an %s address", name, beyond, addresses[shift]);
+            expect_converted(low, high, beyond, shift);
+        }
+    name_case("%s there and back", name);
+    expect_there_and_back(high);
+    expect_there_and_back(low);
+}
+
+static void try_files(const char *high_path, const char *low_path)
+{
+    struct buffer high = read_file(high_path);
+    struct buffer low = read_file(low_path);
+    if (low.length != high.length)
+        fail("expected %zu bytes as in the other order, got %zu", high.length, low.length);
+    try_pair(high, low, high_path);
+    release(high);
+    release(low);
+}
+
+/* ---- a damaged trace */
+
+struct damage {
+    const char *name;
+    size_t at;
+    int width;
+    uint32_t number;
+    uint32_t answer;
+};
+
+/* Numbers at fixed places of the header. An answer of 0 is a number that is still good. */
+static const struct damage header_damages[] = {
+    {"mark ending in 05", AT_MARK, 4, 0x01020305u, 2},
+    {"mark with 02 twice", AT_MARK, 4, 0x01020204u, 2},
+    {"mark with 03 twice", AT_MARK, 4, 0x01030304u, 2},
+    {"mark starting with 00", AT_MARK, 4, 0x00020304u, 2},
+    {"mark of swapped pairs", AT_MARK, 4, 0x02010403u, 2},
+    {"mark of zeros", AT_MARK, 4, 0, 2},
+    {"edition 0", AT_EDITION, 2, 0, 3},
+    {"edition 2", AT_EDITION, 2, 2, 3},
+    {"edition 1 in the other order", AT_EDITION, 2, 256, 3},
+    {"8001 records", AT_COUNT, 4, 8001, 4},
+    {"most records in a number", AT_COUNT, 4, 0xffffffffu, 4},
+    {"8000 records that are not there", AT_COUNT, 4, 8000, 5},
+    {"offset 0", AT_OFFSET, 4, 0, 5},
+    {"offset 56", AT_OFFSET, 4, 56, 5},
+    {"length field 0", AT_LENGTH, 4, 0, 5},
+    {"length field with a high bit", AT_LENGTH, 4, 0x80000000u, 5},
+    {"first zero field 1", AT_FIRST_ZERO, 2, 1, 6},
+    {"first zero field 256", AT_FIRST_ZERO, 2, 256, 6},
+    {"last zero field 1", AT_LAST_ZERO, 4, 1, 6},
+    {"last zero field with a high bit", AT_LAST_ZERO, 4, 0x80000000u, 6},
+    {"most writes in a number", AT_WRITES, 4, 0xffffffffu, 7},
+    {"rule 0", AT_RULE, 2, 0, 0},
+    {"rule 2", AT_RULE, 2, 2, 0},
+    {"rule 3", AT_RULE, 2, 3, 8},
+    {"frames 0", AT_FRAMES, 2, 0, 8},
+    {"frames 1", AT_FRAMES, 2, 1, 0},
+    {"frames 128", AT_FRAMES, 2, 128, 0},
+    {"frames 129", AT_FRAMES, 2, 129, 8},
+    {"batch 0", AT_BATCH, 2, 0, 8},
+    {"batch 1", AT_BATCH, 2, 1, 0},
+    {"batch 16", AT_BATCH, 2, 16, 0},
+    {"batch 17", AT_BATCH, 2, 17, 8},
+    {"cap 0", AT_CAP, 2, 0, 8},
+    {"cap 1", AT_CAP, 2, 1, 0},
+    {"cap 7", AT_CAP, 2, 7, 0},
+    {"cap 8", AT_CAP, 2, 8, 8},
+    {"sample 0", AT_SAMPLE, 2, 0, 8},
+    {"sample 1", AT_SAMPLE, 2, 1, 0},
+    {"sample 16", AT_SAMPLE, 2, 16, 0},
+    {"sample 17", AT_SAMPLE, 2, 17, 8},
+    {"weight 0", AT_WEIGHT, 2, 0, 0},
+    {"weight 16", AT_WEIGHT, 2, 16, 0},
+    {"weight 17", AT_WEIGHT, 2, 17, 8},
+    {"epoch 0", AT_EPOCH, 4, 0, 8},
+    {"epoch 1", AT_EPOCH, 4, 1, 0},
+    {"epoch 50000", AT_EPOCH, 4, 50000, 0},
+    {"epoch 50001", AT_EPOCH, 4, 50001, 8},
+    {"seed 0", AT_SEED, 4, 0, 0},
+    {"most seed", AT_SEED, 4, 0xffffffffu, 0},
+};
+
+static const char *name_of(enum order order)
+{
+    return order == HIGH_FIRST ? "high" : "low";
+}
+
+static void put_damage(uint8_t *bytes, const struct damage *damage, enum order order)
+{
+    if (damage->width == 2)
+        put16(bytes + damage->at, damage->number, order);
+    else
+        put32(bytes + damage->at, damage->number, order);
+}
+
+static void try_damage(struct buffer trace, enum order order, const struct damage *damage)
+{
+    struct buffer damaged = copy_of(trace.at, trace.length, 1);
+    put_damage(damaged.at, damage, order);
+    name_case("%s, %s first", damage->name, name_of(order));
+    if (damage->answer == HITCHYAWL_ACCEPTED)
+        expect_there_and_back(damaged);
+    else
+        expect_refused(damaged.at, damaged.length, damage->answer);
+    release(damaged);
+}
+
+static void try_header_damages(struct buffer trace, enum order order)
+{
+    for (size_t i = 0; i < sizeof header_damages / sizeof header_damages[0]; i++)
+        try_damage(trace, order, &header_damages[i]);
+}
+
+/* Counts of the header that are off by one from what this trace holds. */
+static void try_count_damages(struct buffer trace, enum order order)
+{
+    uint32_t count = get32(trace.at + AT_COUNT, order);
+    uint32_t writes = get32(trace.at + AT_WRITES, order);
+    uint32_t length = get32(trace.at + AT_LENGTH, order);
+    const struct damage damages[] = {
+        {"a record too few", AT_COUNT, 4, count - 1, 5},
+        {"a record too many", AT_COUNT, 4, count + 1, 5},
+        {"length field a byte less", AT_LENGTH, 4, length - 1, 5},
+        {"length field a byte more", AT_LENGTH, 4, length + 1, 5},
+        {"a write more", AT_WRITES, 4, writes + 1, 7},
+        {"a write less", AT_WRITES, 4, writes - 1, 7},
+    };
+    for (size_t i = 0; i < sizeof damages / sizeof damages[0]; i++)
+        try_damage(trace, order, &damages[i]);
+}
+
+static void try_record_damages(struct buffer trace, enum order order, size_t record)
+{
+    size_t at = record_at(record);
+    uint32_t kind = get16(trace.at + at + IN_KIND, order);
+    const struct damage damages[] = {
+        {"kind 4", at + IN_KIND, 2, 4, 6},
+        {"kind 1 in the other order", at + IN_KIND, 2, 256, 6},
+        {"kind 65535", at + IN_KIND, 2, 65535, 6},
+        {"record's zero field 1", at + IN_ZERO, 2, 1, 6},
+        {"record's zero field 256", at + IN_ZERO, 2, 256, 6},
+        {"write for another kind, or the other way", at + IN_KIND, 2, kind == 1 ? 0 : 1, 7},
+        {"page 0", at + IN_PAGE, 4, 0, 0},
+        {"most page", at + IN_PAGE, 4, 0xffffffffu, 0},
+    };
+    for (size_t i = 0; i < sizeof damages / sizeof damages[0]; i++)
+        try_damage(trace, order, &damages[i]);
+}
+
+/* Damages added one by one, the last check's first: the refusal is always that of the newest. */
+static void try_order_of_checks(struct buffer trace, enum order order)
+{
+    uint32_t writes = get32(trace.at + AT_WRITES, order);
+    const struct damage damages[] = {
+        {"setting", AT_RULE, 2, 3, 8},
+        {"setting and writes", AT_WRITES, 4, writes + 1, 7},
+        {"setting to zero field", AT_FIRST_ZERO, 2, 1, 6},
+        {"setting to offset", AT_OFFSET, 4, 0, 5},
+        {"setting to count", AT_COUNT, 4, 8001, 4},
+        {"setting to edition", AT_EDITION, 2, 2, 3},
+        {"setting to mark", AT_MARK, 4, 0, 2},
+    };
+    struct buffer damaged = copy_of(trace.at, trace.length, 0);
+    for (size_t i = 0; i < sizeof damages / sizeof damages[0]; i++) {
+        put_damage(damaged.at, &damages[i], order);
+        name_case("damages from %s together, %s first", damages[i].name, name_of(order));
+        expect_refused(damaged.at, damaged.length, damages[i].answer);
+    }
+    name_case("all damages in 47 bytes, %s first", name_of(order));
+    expect_refused(damaged.at, HEADER_BYTES - 1, HITCHYAWL_TOO_SHORT);
+    release(damaged);
+}
+
+/* ---- a trace cut short or too long, and too little room */
+
+static void try_other_lengths(struct buffer trace, enum order order)
+{
+    for (size_t length = 0; length <= trace.length + 1; length++) {
+        if (length == trace.length)
+            continue;
+        struct buffer other = untouched_buffer(length, length % 2);
+        memcpy(other.at, trace.at, length < trace.length ? length : trace.length);
+        name_case("%zu bytes of %zu, %s first", length, trace.length, name_of(order));
+        expect_refused(other.at, length, length < HEADER_BYTES ? HITCHYAWL_TOO_SHORT : HITCHYAWL_WRONG_LENGTH);
+        release(other);
+    }
+}
+
+static void try_short_rooms(struct buffer trace, enum order order)
+{
+    struct buffer out = untouched_buffer(trace.length + BEYOND, 1);
+    for (size_t room = 0; room < trace.length; room++) {
+        name_case("room for %zu bytes of %zu, %s first", room, trace.length, name_of(order));
+        expect_answer("convert", HITCHYAWL_BUFFER_TOO_SHORT, hitchyawl_convert(trace.at, trace.length, out.at, room));
+        expect_untouched(out, 0);
+    }
+    release(out);
+}
+
+static void try_null_pointers(struct buffer trace)
+{
+    uint8_t out[1] = {untouched(0)};
+    name_case("null pointers of length 0");
+    expect_answer("check", HITCHYAWL_TOO_SHORT, hitchyawl_check(NULL, 0));
+    expect_answer("convert of nothing to nothing", HITCHYAWL_TOO_SHORT, hitchyawl_convert(NULL, 0, NULL, 0));
+    expect_answer("convert of nothing", HITCHYAWL_TOO_SHORT, hitchyawl_convert(NULL, 0, out, sizeof out));
+    expect_answer("convert to nothing", HITCHYAWL_BUFFER_TOO_SHORT, hitchyawl_convert(trace.at, trace.length, NULL, 0));
+}
+
+static void try_faults(const char *path, enum order order)
+{
+    struct buffer trace = read_file(path);
+    if (trace.length < record_at(1) || trace.length >= record_at(MOST_RECORDS) || get32(trace.at, order) != MARK)
+        fail("expected 1 to 7,999 records, %s first, got another trace", name_of(order));
+    try_header_damages(trace, order);
+    try_count_damages(trace, order);
+    try_record_damages(trace, order, 0);
+    try_record_damages(trace, order, (trace.length - HEADER_BYTES) / RECORD_BYTES - 1);
+    try_order_of_checks(trace, order);
+    try_other_lengths(trace, order);
+    try_short_rooms(trace, order);
+    try_null_pointers(trace);
+    release(trace);
+}
+
+/* ---- the longest trace, and one record more */
+
+static struct buffer built_trace(uint32_t count, enum order order)
+{
+    struct buffer trace = new_buffer(record_at(count), 1);
+    build_trace(trace.at, count, order);
+    return trace;
+}
+
+static void try_built(uint32_t count, const char *name)
+{
+    struct buffer high = built_trace(count, HIGH_FIRST);
+    struct buffer low = built_trace(count, LOW_FIRST);
+    if (count <= MOST_RECORDS) {
+        try_pair(high, low, name);
+    } else {
+        name_case("%s", name);
+        expect_refused(high.at, high.length, HITCHYAWL_TOO_MANY_RECORDS);
+        expect_refused(low.at, low.length, HITCHYAWL_TOO_MANY_RECORDS);
+    }
+    release(high);
+    release(low);
+}
+
+int main(int count, char **words)
+{
+    if (count < 3 || count % 2 == 0) {
+        fprintf(stderr, "transport NAME-high.trace NAME-low.trace ...\n");
+        return 2;
+    }
+    for (int i = 1; i < count; i += 2)
+        try_files(words[i], words[i + 1]);
+    try_faults(words[1], HIGH_FIRST);
+    try_faults(words[2], LOW_FIRST);
+    try_built(0, "no records");
+    try_built(MOST_RECORDS, "8000 records");
+    try_built(MOST_RECORDS + 1, "8001 records");
+    printf("transport: %lu expectations held\n", held);
+    return 0;
+}
