@@ -1,8 +1,7 @@
 -- The converter's answers, one law a way, and converting twice.
-use mathlib.Core.Path.{_≡_, refl, sym, ap, _∙_}
-use mathlib.Core.List.{List, _++_}
+use mathlib.Core.Path.{_≡_, refl, sym, _∙_}
+use mathlib.Core.List.{List}
 use Prim.Native.Nat.{ℕ, _≤_, _<_}
-use native.Mathlib.Omega.{arith}
 use lib.ListN.{length, take}
 use lib.Seq.{sets}
 use lib.Dec.{leb}
@@ -13,9 +12,9 @@ use Rattle.word.specs.declared.Order.the-variants.{High, Low}
 use Rattle.word.proofs.Laws.{sets-append, sets-front}
 use Rattle.refusal.specs.Refusals.{demand, orElse}
 use Rattle.refusal.proofs.Laws.{met, neither, or-first}
-use Rattle.trace.specs.Layout.{Trace, fileLength, writesIn}
+use Rattle.trace.specs.Layout.{Trace, writesIn}
 use Rattle.trace.specs.Encode.{headerBytes, recordsTo, encode, other, turned, Proper}
-use Rattle.trace.specs.Check.{refusalOf, traceOf, decode, headerOf, checkOf}
+use Rattle.trace.specs.Check.{refusalOf, traceOf, decode, checkOf}
 use Rattle.trace.specs.Check.Decoded.{Whole}
 use Rattle.trace.specs.declared.Header.{Header}
 use Rattle.trace.specs.declared.Checked.the-variants.{Refused, Accepted}
@@ -88,3 +87,7 @@ converts-back s out r out′ bs c e =
     let fits = leb-true (length s) (length out) (met (leb (length s) (length out)) 12 0 (n .1) .0) in
     let f : take (length s) out′ ≡ converted s = rw (c .bytes-hold, none) (sets-front out (converted s) (length s) (length-converted s bs (n .0)) fits) in
     rw f (decode-converted s bs (n .0), convert-twice s bs (n .0))
+
+-- any two outcomes that the converter's contract allows are the same
+pub convert-one : (s out : List ℕ) (a b : ℕ) (out₁ out₂ : List ℕ) → ConvertedTo s out a out₁ → ConvertedTo s out b out₂ → (a ≡ b) × (out₁ ≡ out₂)
+convert-one s out a b out₁ out₂ x y = (x .answers ∙ sym (y .answers), x .bytes-hold ∙ sym (y .bytes-hold))

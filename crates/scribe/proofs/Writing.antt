@@ -1,7 +1,7 @@
 -- The writer's answers, one law a way, and reading what was written.
-use mathlib.Core.Path.{_≡_, refl, sym, _∙_}
+use mathlib.Core.Path.{_≡_, sym, _∙_}
 use mathlib.Core.List.{List}
-use Prim.Native.Nat.{ℕ, _^_, _≤_, _<_}
+use Prim.Native.Nat.{ℕ, _^_, _<_}
 use lib.ListN.{length, getD}
 use lib.Seq.{sets}
 use Rattle.word.proofs.Laws.{sets-front}
@@ -27,3 +27,7 @@ reads-back t out r out′ seed page w z =
     let g = granted t (length out) none in
     let ok : Proper t = record { same = g .same; few = g .few; known = g .known; range = g .range; seed = seed; page = page } in
     rw (w .bytes-hold, none, sets-front out (encode t) (fileLength (length (t .pages))) (length-encode t) (g .long)) (decode-encode t ok)
+
+-- any two outcomes that the writer's contract allows are the same
+pub write-one : (t : Trace) (out : List ℕ) (a b : ℕ) (out₁ out₂ : List ℕ) → WrittenTo t out a out₁ → WrittenTo t out b out₂ → (a ≡ b) × (out₁ ≡ out₂)
+write-one t out a b out₁ out₂ x y = (x .answers ∙ sym (y .answers), x .bytes-hold ∙ sym (y .bytes-hold))

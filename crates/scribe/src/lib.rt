@@ -5,7 +5,7 @@ ghost use mathlib.Core.List.{[], _∷_};
 ghost use lib.ListN.{length, getD};
 ghost use lib.Seq.{sets};
 ghost use Rattle.trace.specs.Layout.{recordLimit, fileLength};
-ghost use Rattle.trace.specs.Encode.{markBytes, countBytes, shortBytes, longBytes, headerBytes, recordBytes, recordsTo, encode, other, turned};
+ghost use Rattle.trace.specs.Encode.{markBytes, countBytes, shortBytes, longBytes, headerBytes, recordBytes, recordsTo, encode, other};
 ghost use Rattle.trace.specs.Check.{checkOf, traceOf};
 ghost use Rattle.scribe.specs.Write.{traceFrom, kindsOf, writeRefusal, WrittenTo, ReadsBack, ConvertedTo, ConvertsBack};
 use refusal::demanded;
@@ -74,35 +74,35 @@ fn put_counts(out: &mut [u8], order: Order, n: u32, writes: u32)
 }
 
 // The six settings of 2 bytes.
-fn put_shorts(out: &mut [u8], order: Order, t: Settings)
+fn put_shorts(out: &mut [u8], order: Order, settings: Settings)
     requires { ⌜ 48 ≤ length (now out) ⌝ }
-    ensures { λ _. ⌜ now (out .exit) ≡ sets (now (out .entry)) 24 (shortBytes order t) ⌝ }
+    ensures { λ _. ⌜ now (out .exit) ≡ sets (now (out .entry)) 24 (shortBytes order settings) ⌝ }
 {
-    word::put16(out, 24, order, t.rule);
-    word::put16(out, 26, order, t.frames);
-    word::put16(out, 28, order, t.batch);
-    word::put16(out, 30, order, t.cap);
-    word::put16(out, 32, order, t.sample);
-    word::put16(out, 34, order, t.weight);
+    word::put16(out, 24, order, settings.rule);
+    word::put16(out, 26, order, settings.frames);
+    word::put16(out, 28, order, settings.batch);
+    word::put16(out, 30, order, settings.cap);
+    word::put16(out, 32, order, settings.sample);
+    word::put16(out, 34, order, settings.weight);
 }
 
 // The two of 4 bytes, and the zero.
-fn put_longs(out: &mut [u8], order: Order, t: Settings)
+fn put_longs(out: &mut [u8], order: Order, settings: Settings)
     requires { ⌜ 48 ≤ length (now out) ⌝ }
-    ensures { λ _. ⌜ now (out .exit) ≡ sets (now (out .entry)) 36 (longBytes order t) ⌝ }
+    ensures { λ _. ⌜ now (out .exit) ≡ sets (now (out .entry)) 36 (longBytes order settings) ⌝ }
 {
-    word::put32(out, 36, order, t.epoch);
-    word::put32(out, 40, order, t.seed);
+    word::put32(out, 36, order, settings.epoch);
+    word::put32(out, 40, order, settings.seed);
     word::put32(out, 44, order, 0);
 }
 
-fn put_header(out: &mut [u8], order: Order, t: Settings, n: u32, writes: u32)
+fn put_header(out: &mut [u8], order: Order, settings: Settings, n: u32, writes: u32)
     requires { ⌜ (48 ≤ length (now out)) × (n ≤ recordLimit) ⌝ }
-    ensures { λ _. ⌜ now (out .exit) ≡ sets (now (out .entry)) 0 (headerBytes order t n writes) ⌝ }
+    ensures { λ _. ⌜ now (out .exit) ≡ sets (now (out .entry)) 0 (headerBytes order settings n writes) ⌝ }
 {
     put_counts(out, order, n, writes);
-    put_shorts(out, order, t);
-    put_longs(out, order, t);
+    put_shorts(out, order, settings);
+    put_longs(out, order, settings);
 }
 
 fn put_record(out: &mut [u8], at: usize, order: Order, page: u32, kind: u16)
@@ -131,13 +131,9 @@ fn put_trace(settings: Settings, order: Order, pages: &[u32], kinds: &[u16], out
     ensures { λ _. ⌜ now (out .exit) ≡ sets (now (out .entry)) 0 (encode (traceFrom settings order (now (pages .entry)) (now (kinds .entry)))) ⌝ }
 {
     let found = survey_kinds(kinds);
-    put_header(
-        out,
-        order,
-        settings,
-        pages.len() as u32,
-        found.writes as u32,
-    );
+    let n = pages.len() as u32;
+    let writes = found.writes as u32;
+    put_header(out, order, settings, n, writes);
     put_records(out, order, pages, kinds);
 }
 
@@ -202,13 +198,8 @@ fn convert_accepted(bytes: &[u8], header: Header, out: &mut [u8]) -> u32
     let order = header.order;
     let to = other_order(order);
     let settings = header.settings;
-    put_header(
-        out,
-        to,
-        settings,
-        header.count,
-        trace::writes(bytes, header),
-    );
+    let writes = trace::writes(bytes, header);
+    put_header(out, to, settings, header.count, writes);
     convert_records(bytes, header, to, out);
     0
 }

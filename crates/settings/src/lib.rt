@@ -1,6 +1,5 @@
 // The eight settings of a replay: their ranges, and when two are the same.
 ghost use mathlib.Core.Path.{_≡_};
-ghost use mathlib.Core.Bool.{_&&_};
 ghost use Rattle.settings.specs.Settings.{between, inRange, sameSettings};
 
 pub struct Settings {

@@ -1,21 +1,18 @@
 -- What is known of a trace that the checker accepts: it met each demand, and its parts are those of the layout.
-use mathlib.Core.Path.{_≡_, refl, sym, ap, _∙_}
+use mathlib.Core.Path.{_≡_, refl, ap, _∙_}
 use mathlib.Core.List.{List}
-use mathlib.Core.Bool.{Bool, true, false, _&&_}
-use Prim.Native.Nat.{ℕ, zero, suc, _+_, _*_, _≤_, _<_}
+use mathlib.Core.Bool.{true, _&&_}
+use Prim.Native.Nat.{ℕ, zero, suc, _+_, _≤_, _<_}
 use native.Mathlib.Omega.{arith}
-use lib.ListN.{length, getD}
+use lib.ListN.{length}
 use lib.Dec.{eqb, leb}
 use borrow.Author.Tests.{eqb-true}
 use Rattle.word.specs.declared.Order.{Order}
-use Rattle.word.specs.declared.Order.the-variants.{High, Low}
 use Rattle.refusal.specs.Refusals.{demand}
 use Rattle.refusal.proofs.Laws.{met, both, neither}
 use Rattle.settings.specs.Settings.{inRange}
-use Rattle.trace.specs.Layout.{Trace, recordLimit, headerLength, fileLength, markHigh, markLow, begins, pickMark, markOf, firstZeroAt, lastZeroAt, writesAt, countAt, settingsAt, pageAt, kindAt, zeroAt, upTo, knownKinds, allZero, writesIn, traceAt, recordOf}
-use Rattle.trace.specs.Encode.{markBytes}
-use Rattle.trace.specs.Check.{surveyOf, zerosRight, layoutOf, contentOf, refusalIn, refusalMarked, refusalOf, traceOf, Decoded, decoded, decode, headerOf, checked, checkOf}
-use Rattle.trace.specs.Check.Decoded.{Whole}
+use Rattle.trace.specs.Layout.{Trace, headerLength, fileLength, markOf, firstZeroAt, lastZeroAt, writesAt, countAt, settingsAt, pageAt, kindAt, zeroAt, upTo, knownKinds, allZero, writesIn, traceAt, recordOf}
+use Rattle.trace.specs.Check.{surveyOf, layoutOf, contentOf, refusalIn, refusalMarked, refusalOf, traceOf, decoded, decode, headerOf, checked, checkOf}
 use Rattle.trace.specs.declared.Mark.{Mark}
 use Rattle.trace.specs.declared.Mark.the-variants.{Known, Unknown}
 use Rattle.trace.specs.declared.Header.{Header}

@@ -1,14 +1,13 @@
 -- Laws of the checks: what is known where nothing is refused, and the answer where something is.
-use mathlib.Core.Path.{_≡_, refl, sym, ap, _∙_}
+use mathlib.Core.Path.{_≡_, refl}
 use mathlib.Core.List.{List}
-use mathlib.Core.Bool.{Bool, true, false, _&&_}
+use mathlib.Core.Bool.{_&&_}
 use Prim.Native.Nat.{ℕ, zero, suc, _≤_}
-use native.Mathlib.Omega.{arith}
 use lib.ListN.{length}
 use lib.Dec.{eqb, leb}
 use borrow.Author.Tests.{leb-true, eqb-true}
 use Rattle.word.specs.declared.Order.{Order}
-use Rattle.refusal.specs.Refusals.{demand, orElse}
+use Rattle.refusal.specs.Refusals.{demand}
 use Rattle.refusal.proofs.Laws.{met, both}
 use Rattle.trace.specs.Layout.{Trace, edition, recordLimit, headerLength, fileLength, editionAt, countAt, offsetAt, lengthAt, pageAt, settingsAt, traceAt}
 use Rattle.trace.specs.Check.{layoutOf, lengthsRight, decoded, checked, stored}

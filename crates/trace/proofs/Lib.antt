@@ -6,3 +6,4 @@ pub mod Again
 pub mod Round
 pub mod Reading
 pub mod Whole
+pub mod Promise

@@ -1,16 +1,16 @@
 -- Lists made one by one: what stands in them, and what a turn of a loop adds.
-use mathlib.Core.Path.{_≡_, refl, sym, ap, _∙_}
+use mathlib.Core.Path.{_≡_, refl, sym, _∙_}
 use mathlib.Core.List.{List, [], _∷_, _++_}
-use mathlib.Core.Bool.{Bool, true, false, _&&_, and-true, and-assoc}
+use mathlib.Core.Bool.{true, _&&_, and-true, and-assoc}
 use mathlib.Core.Logic.{⊎-elim, _⊎_, inl, inr}
 use Prim.Native.Nat.{ℕ, zero, suc, _+_, _-_, _≤_, _<_}
 use native.Mathlib.Nat.{zero-add, eq-or-lt-of-le, eq-zero-or-pos}
 use native.Mathlib.Numerals.{add-one}
 use native.Mathlib.Omega.{arith}
-use lib.ListN.{length, getD, set, take, length-append, List·getD-append, List·getD-eq-default}
-use lib.Seq.{sets, getD-at, ext-getD, take-suc}
-use lib.Dec.{eqb, leb}
-use borrow.Author.Tests.{eq-eqb, eqb-true}
+use lib.ListN.{length, getD, set, length-append, List·getD-append, List·getD-eq-default}
+use lib.Seq.{sets, getD-at, ext-getD}
+use lib.Dec.{eqb}
+use borrow.Author.Tests.{eqb-true, leb-true}
 use Rattle.word.proofs.Laws.{sets-append}
 use Rattle.refusal.proofs.Laws.{both}
 use Rattle.trace.specs.Layout.{upTo, isWrite, writesIn, knownKind, knownKinds, allZero}
@@ -89,3 +89,9 @@ write-le (suc (suc k)) = omega arith
 pub writes-le : (l : List ℕ) → writesIn l ≤ length l
 writes-le [] = omega arith
 writes-le (k ∷ l) = omega (arith, writes-le l, write-le k)
+
+-- a known kind is at most 3, and so is the 0 behind the list's end
+pub known-le : (l : List ℕ) (i : ℕ) → knownKinds l ≡ true → getD l i 0 ≤ 3
+known-le [] i h = omega arith
+known-le (k ∷ l) zero h = leb-true k 3 (both (knownKind k) (knownKinds l) h .0)
+known-le (k ∷ l) (suc i) h = known-le l i (both (knownKind k) (knownKinds l) h .1)

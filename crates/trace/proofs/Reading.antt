@@ -1,10 +1,9 @@
 -- The reader's answers, one law a way.
 use mathlib.Core.Path.{_≡_, refl, sym, ap, _∙_}
-use mathlib.Core.List.{List, [], _∷_}
+use mathlib.Core.List.{List}
 use mathlib.Core.Bool.{Bool, true, false, _&&_}
-use Prim.Native.Nat.{ℕ, zero, suc, _≤_, _<_}
-use native.Mathlib.Omega.{arith}
-use lib.ListN.{length, getD, take}
+use Prim.Native.Nat.{ℕ}
+use lib.ListN.{length, take}
 use lib.Seq.{sets}
 use lib.Dec.{leb}
 use borrow.Author.Tests.{leb-true}
@@ -12,9 +11,7 @@ use Rattle.word.specs.Number.{Bytes}
 use Rattle.word.proofs.Laws.{sets-front}
 use Rattle.refusal.specs.Refusals.{demand, orElse}
 use Rattle.refusal.proofs.Laws.{met, both, neither, or-first}
-use Rattle.trace.specs.Layout.{Trace}
-use Rattle.trace.specs.Encode.{encode}
-use Rattle.trace.specs.Check.{refusalOf, traceOf, decoded, decode, headerOf, checked, checkOf, readRefusal, readOf, stored, ReadInto, WritesAgain}
+use Rattle.trace.specs.Check.{refusalOf, traceOf, checkOf, readRefusal, readOf, ReadInto, WritesAgain}
 use Rattle.trace.specs.declared.Header.{Header}
 use Rattle.trace.specs.declared.Checked.{Checked}
 use Rattle.trace.specs.declared.Checked.the-variants.{Refused, Accepted}
@@ -66,3 +63,9 @@ writes-again s pages kinds answer pages′ kinds′ bs i h e =
     let p : take n pages′ ≡ t .pages = rw (i .pages-hold, a .0) (sets-front pages (t .pages) n refl (leb-true n (length pages) (fits .0))) in
     let k : take n kinds′ ≡ t .kinds = rw (i .kinds-hold, a .0) (sets-front kinds (t .kinds) n (c .1 ∙ sym (c .0)) (leb-true n (length kinds) (fits .1))) in
     rw (a .1, p, k) (encode-trace s bs (b .0))
+
+-- any two outcomes that the reader's contract allows are the same
+pub read-one : (s pages kinds : List ℕ) (a b : Checked) (pages₁ pages₂ kinds₁ kinds₂ : List ℕ)
+    → ReadInto s pages kinds a pages₁ kinds₁ → ReadInto s pages kinds b pages₂ kinds₂ → (a ≡ b) × (pages₁ ≡ pages₂) × (kinds₁ ≡ kinds₂)
+read-one s pages kinds a b pages₁ pages₂ kinds₁ kinds₂ x y =
+    (x .answers ∙ sym (y .answers), x .pages-hold ∙ sym (y .pages-hold), x .kinds-hold ∙ sym (y .kinds-hold))

@@ -1,28 +1,25 @@
 -- Reading what was encoded gives the trace back.
 use mathlib.Core.Path.{_≡_, refl, sym, ap, _∙_}
-use mathlib.Core.List.{List, [], _∷_, _++_}
-use mathlib.Core.Bool.{Bool, true, false, _&&_}
-use mathlib.Core.Logic.{⊎-elim, _⊎_, inl, inr}
-use Prim.Native.Nat.{ℕ, zero, suc, _+_, _*_, _^_, _≤_, _<_}
+use mathlib.Core.List.{List, _++_}
+use mathlib.Core.Logic.{⊎-elim, _⊎_}
+use Prim.Native.Nat.{ℕ, zero, suc, _+_, _*_, _≤_, _<_}
 use native.Mathlib.Nat.{add-zero, add-assoc, eq-or-lt-of-le}
 use native.Mathlib.Omega.{arith}
-use lib.ListN.{length, getD, take, drop, length-drop}
+use lib.ListN.{length, getD, drop, length-drop}
 use lib.Seq.{drop-append-le, take-append-le, drop-append-add}
-use lib.Dec.{eqb, leb}
-use borrow.Author.Tests.{eq-eqb, le-leb, leb-true}
+use borrow.Author.Tests.{eq-eqb, le-leb}
 use Rattle.word.specs.Number.{numberAt, numberOf, bytesOf}
 use Rattle.word.specs.declared.Order.{Order}
 use Rattle.word.specs.declared.Order.the-variants.{High, Low}
 use Rattle.word.proofs.Laws.{number-back}
-use Rattle.refusal.proofs.Laws.{both}
 use Rattle.settings.specs.declared.Settings.{Settings}
-use Rattle.settings.proofs.Laws.{Ranges, ranges}
-use Rattle.trace.specs.Layout.{Trace, recordLimit, headerLength, fileLength, markOf, editionAt, firstZeroAt, countAt, offsetAt, writesAt, lengthAt, lastZeroAt, settingsAt, pageAt, kindAt, zeroAt, upTo, knownKind, knownKinds, allZero, writesIn, traceAt}
+use Rattle.settings.proofs.Laws.{ranges}
+use Rattle.trace.specs.Layout.{Trace, recordLimit, headerLength, fileLength, markOf, editionAt, firstZeroAt, countAt, offsetAt, writesAt, lengthAt, lastZeroAt, settingsAt, pageAt, kindAt, zeroAt, upTo, writesIn, traceAt}
 use Rattle.trace.specs.Encode.{countBytes, shortBytes, longBytes, headerBytes, recordBytes, recordsTo, encode, Proper}
 use Rattle.trace.specs.Check.{surveyOf, layoutOf, contentOf, refusalIn, refusalOf, traceOf, decode}
 use Rattle.trace.specs.Check.Decoded.{Whole}
 use Rattle.trace.specs.declared.Mark.the-variants.{Known}
-use Rattle.trace.proofs.Lists.{length-upTo, upTo-is, all-zero, writes-le}
+use Rattle.trace.proofs.Lists.{upTo-is, all-zero, writes-le, known-le}
 use Rattle.trace.proofs.Accept.{trace-is}
 use Rattle.trace.proofs.Sizes.{length-header, length-records, length-encode}
 
@@ -84,12 +81,6 @@ unfolding headerBytes countBytes
 mark-read High t n w rest = refl
 mark-read Low t n w rest = refl
 
--- a known kind is a number of 2 bytes, and so is the 0 behind the list's end
-kind-small : (l : List ℕ) (i : ℕ) → knownKinds l ≡ true → getD l i 0 < 256 ^ 2
-kind-small [] i h = omega arith
-kind-small (k ∷ l) zero h = let le = leb-true k 3 (both (knownKind k) (knownKinds l) h .0) in omega arith
-kind-small (k ∷ l) (suc i) h = kind-small l i (both (knownKind k) (knownKinds l) h .1)
-
 module _ (t : Trace) (ok : Proper t) where
   -- what the encoding holds at the places of the header
   head : HeaderOf (t .order) (encode t) (t .settings) (length (t .pages)) (writesIn (t .kinds))
@@ -140,7 +131,7 @@ module _ (t : Trace) (ok : Proper t) where
   kind-read : (i : ℕ) → i < length (t .pages) → kindAt (t .order) (encode t) i ≡ getD (t .kinds) i 0
   kind-read i l =
       let o = t .order in
-      record-field 2 4 i (omega arith) l ∙ fields o (getD (t .pages) i 0) (getD (t .kinds) i 0) .1 ∙ number-back o 2 (getD (t .kinds) i 0) (kind-small (t .kinds) i (ok .known))
+      record-field 2 4 i (omega arith) l ∙ fields o (getD (t .pages) i 0) (getD (t .kinds) i 0) .1 ∙ number-back o 2 (getD (t .kinds) i 0) (let le = known-le (t .kinds) i (ok .known) in omega arith)
 
   zero-read : (i : ℕ) → i < length (t .pages) → zeroAt (t .order) (encode t) i ≡ 0
   zero-read i l =

@@ -2,25 +2,12 @@
 // with the answer and digests of all lent memory. traces/make writes the bundle, says how it is laid out, and knows the lines.
 ghost use Prim.Native.Nat.{_+_, _*_, _≤_, _<_};
 ghost use lib.ListN.{length};
+use lines::say;
+use lines::say_number;
+use lines::say_order;
 use settings::Settings;
 use trace::Checked;
 use word::Order;
-
-fn say(text: &[u8]) {
-    io::write_all(libc::STDOUT_FILENO, text);
-}
-
-fn say_number(n: u64) {
-    say(b" ");
-    io::print_decimal(libc::STDOUT_FILENO, n);
-}
-
-fn say_order(order: Order) {
-    match order {
-        Order::High => say(b" high"),
-        Order::Low => say(b" low"),
-    }
-}
 
 fn say_settings(s: Settings) {
     say_number(s.rule as u64);

@@ -1,12 +1,12 @@
 -- Laws of numbers as bytes, each over the width.
 use mathlib.Core.Path.{_≡_, refl, sym, ap, _∙_}
-use mathlib.Core.List.{List, [], _∷_, _++_, append-nil, append-assoc, reverse, reverseAux, reverse-reverse}
+use mathlib.Core.List.{List, [], _∷_, _++_, reverse, reverseAux, reverse-reverse}
 use Prim.Native.Nat.{ℕ, zero, suc, _+_, _*_, _/_, _%_, _^_, _≤_, _<_}
-use native.Mathlib.Nat.{add-zero, pow-suc}
+use native.Mathlib.Nat.{pow-suc}
 use native.Mathlib.Numerals.{add-one}
 use native.Mathlib.Omega.{arith}
-use lib.ListN.{length, getD, take, drop, set, length-drop, length-reverse, drop-of-length-le}
-use lib.Seq.{drop-cons, drop-drop, sets, sets-eq, take-at, length-take-le}
+use lib.ListN.{length, getD, take, drop, set, length-drop, length-reverse}
+use lib.Seq.{drop-cons, sets, sets-eq, take-at, length-take-le}
 use Rattle.word.specs.Number.{numberLow, numberOf, bytesLow, bytesOf, numberAt, Bytes}
 use Rattle.word.specs.declared.Order.{Order}
 use Rattle.word.specs.declared.Order.the-variants.{High, Low}
@@ -110,22 +110,9 @@ sets-more (x ∷ xs) ys l i j e = sets-more xs ys (set l i x) (suc i) j (omega a
 pub sets-append : (xs ys l : List ℕ) (i : ℕ) → sets l i (xs ++ ys) ≡ sets (sets l i xs) (i + length xs) ys
 sets-append xs ys l i = sym (sets-more xs ys l i (i + length xs) refl)
 
--- a run of stores over the whole list leaves the run
-pub sets-all : (bs l : List ℕ) → length l ≡ length bs → sets l 0 bs ≡ bs
-sets-all bs l e =
-    sets-eq bs l 0 (omega arith)
-    ∙ ap (λ (r : List ℕ). bs ++ r) (drop-of-length-le l {i = 0 + length bs} (omega arith))
-    ∙ append-nil bs
-
 -- what a run of stores at the front left there
 pub sets-front : (l xs : List ℕ) (n : ℕ) → length xs ≡ n → n ≤ length l → take n (sets l 0 xs) ≡ xs
 sets-front l xs n e h = rw (sets-eq xs l 0 (omega arith)) (take-at xs _ n e)
-
--- a part of k elements from at that was lent and came back as ys
-pub part-back : (xs ys : List ℕ) (at k : ℕ) → length ys ≡ k → at + k ≤ length xs → take at xs ++ (ys ++ drop k (drop at xs)) ≡ sets xs at ys
-part-back xs ys at k e h =
-    let h′ : at + length ys ≤ length xs = omega arith in
-    rw (← e, drop-drop, ← append-assoc) (sym (sets-eq ys xs at h′))
 
 -- ---- a number of w bytes is below 256 ^ w
 

@@ -1,7 +1,4 @@
-use mathlib.Core.Path.{_≡_, sym, _∙_}
-use Prim.Native.Nat.{_≤_}
 use native.Mathlib.Omega.{arith}
-use lib.ListN.{length}
 use denote.Ref.{now}
 use Rattle.trace.proofs.Accept.{accepted-passed}
 use Rattle.scribe.proofs.Converting.{convert-stores, convert-whole, convert-no-room}
@@ -27,8 +24,8 @@ returns-2 : tie.Need-returns-2
 returns-2 c =
     let r = c .before .before in
     let h = r .before .before .before .before in
-    let w = h .before in
-    let o = w .before .before .before in
+    let w = h .before .before in
+    let o = w .before .before in
     let b = o .before .before .before .before in
     let s = now (b .args .bytes) in
     let head = rw (o .other-order .ensures, w .writes .ensures) at (h .put-header .ensures) in

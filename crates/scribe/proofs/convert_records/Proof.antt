@@ -1,11 +1,11 @@
-use mathlib.Core.Path.{_≡_, refl, ap, sym, _∙_}
-use Prim.Native.Nat.{ℕ, _+_, _*_, _≤_, _-_}
+use mathlib.Core.Path.{_≡_, refl}
+use Prim.Native.Nat.{_≤_, _-_}
 use native.Mathlib.Omega.{arith}
 use lib.ListN.{length}
 use lib.Seq.{sets}
 use denote.Ref.{now}
 use borrow.Author.Needs.{needs}
-use Rattle.trace.specs.Encode.{recordsTo, recordBytes}
+use Rattle.trace.specs.Encode.{recordsTo}
 use Rattle.trace.specs.Check.{traceOf}
 use Rattle.trace.proofs.Accept.{record-within}
 use Rattle.scribe.proofs.Laws.{records-more}

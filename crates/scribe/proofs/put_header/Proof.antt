@@ -8,7 +8,12 @@ use Rattle.scribe.proofs.put_header.Tie as tie
 
 returns : tie.Need-returns
 unfolding headerBytes
-returns c = simp (sets-append, length-append, length-count, length-short) (cc)
+returns c =
+    let c3 = c .before .before in
+    let c2 = c3 .before .before .before .before in
+    let c1 = c2 .before .before .before .before in
+    rw (c3 .put-longs .ensures, c2 .put-shorts .ensures, c1 .put-counts .ensures)
+    (simp (sets-append, length-append, length-count, length-short))
 
 pub put-header-spec : {M : Type 1} → statement M
 put-header-spec =

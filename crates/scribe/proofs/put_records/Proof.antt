@@ -30,7 +30,7 @@ loop-again c =
 returns : tie.Need-returns Inv-loop μ-loop
 returns c =
     let e : c .before .loop .i ≡ length (now (c .before .before .before .before .before .args .pages)) = omega arith in
-    cc
+    rw (← e) (c .before .loop .inv .2)
 
 pub put-records-spec : {M : Type 1} → statement M
 put-records-spec =

@@ -5,7 +5,19 @@ use Rattle.trace.proofs.content_of.Tie as tie
 
 returns : tie.Need-returns
 unfolding contentOf
-returns c = cc
+returns c =
+    rw (
+      c .demanded3 .ensures,
+      c .before .before .demanded2 .ensures,
+      c .before .before .before .before .demanded .ensures,
+      c .before .before .before .before .before .in-range .ensures,
+      c .before .before .before .before .before .before .settings-at .ensures,
+      c .before .before .before .before .before .before .before .survey-of .ensures,
+      c .before .before .before .before .before .before .before .before .get323 .ensures,
+      c .before .before .before .before .before .before .before .before .before .get16 .ensures,
+      c .before .before .before .before .before .before .before .before .before .before .get322 .ensures,
+      c .before .before .before .before .before .before .before .before .before .before .before .get32 .ensures,
+    )
 
 pub content-of-spec : {M : Type 1} → statement M
 content-of-spec =

@@ -5,7 +5,16 @@ use Rattle.trace.proofs.layout_of.Tie as tie
 
 returns : tie.Need-returns
 unfolding layoutOf
-returns c = cc
+returns c =
+    rw (
+      c .demanded3 .ensures,
+      c .before .demanded2 .ensures,
+      c .before .before .demanded .ensures,
+      c .before .before .before .get323 .ensures,
+      c .before .before .before .before .get322 .ensures,
+      c .before .before .before .before .before .get32 .ensures,
+      c .before .before .before .before .before .before .get16 .ensures,
+    )
 
 pub layout-of-spec : {M : Type 1} → statement M
 layout-of-spec =

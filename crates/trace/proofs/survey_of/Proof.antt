@@ -21,13 +21,22 @@ loop-holds : tie.Need-loop-holds Inv-loop μ-loop
 loop-holds c = (omega arith, refl, refl, refl, omega arith)
 
 loop-again : tie.Need-loop-again Inv-loop μ-loop
-loop-again c = (omega arith, rw (add-one, known-snoc) (cc), rw (add-one, zero-snoc) (cc), rw (add-one, writes-snoc) (cc), omega arith)
+loop-again c =
+    let z = c .before in
+    let k = z .before in
+    let l = k .before .before in (
+      omega arith,
+      rw (add-one, known-snoc, l .loop .inv .1, k .get16 .ensures),
+      rw (add-one, zero-snoc, l .loop .inv .2, z .get162 .ensures),
+      rw (add-one, writes-snoc, l .loop .inv .3, c .count-write .ensures .0, k .get16 .ensures),
+      omega arith,
+    )
 
 returns : tie.Need-returns Inv-loop μ-loop
 unfolding surveyOf
 returns c =
     let e : c .before .loop .i ≡ c .before .before .before .args .n = omega arith in
-    cc
+    rw (← e, c .before .loop .inv .1, c .before .loop .inv .2, c .before .loop .inv .3)
 
 pub survey-of-spec : {M : Type 1} → statement M
 survey-of-spec =

@@ -1,6 +1,4 @@
-use Prim.Native.Nat.{ℕ, suc, _+_, _-_, _*_, _≤_, _<_}
-use mathlib.Core.Path.{_≡_, refl, ap, sym, _∙_}
-use native.Mathlib.Omega.{arith}
+use Prim.Native.Nat.{_-_, _<_}
 use borrow.Author.Needs.{needs}
 use Rattle.trials.proofs.digest_bytes.Statement.{statement}
 use Rattle.trials.proofs.digest_bytes.Tie as tie

@@ -1,0 +1,61 @@
+// What a trace on standard input is: its order, settings and counts, a line each, or `trace refused N`.
+use lines::say;
+use lines::say_number;
+use lines::say_order;
+use settings::Settings;
+use trace::Checked;
+use trace::Header;
+
+fn say_rule(rule: u16) {
+    match rule {
+        0 => say(b" lru\n"),
+        1 => say(b" clock\n"),
+        2 => say(b" watt\n"),
+        _ => say(b" unknown\n"),
+    }
+}
+
+// A line of a name and a number.
+fn say_line(name: &[u8], n: u64) {
+    say(name);
+    say_number(n);
+    say(b"\n");
+}
+
+fn say_settings(s: Settings) {
+    say(b"policy");
+    say_rule(s.rule);
+    say_line(b"frames", s.frames as u64);
+    say_line(b"batch", s.batch as u64);
+    say_line(b"cap", s.cap as u64);
+    say_line(b"sample", s.sample as u64);
+    say_line(b"weight", s.weight as u64);
+    say_line(b"epoch", s.epoch as u64);
+    say_line(b"seed", s.seed as u64);
+}
+
+fn say_accepted(header: Header, writes: u32) {
+    let order = header.order;
+    say(b"order");
+    say_order(order);
+    say(b"\n");
+    let settings = header.settings;
+    say_settings(settings);
+    say_line(b"records", header.count as u64);
+    say_line(b"writes", writes as u64);
+}
+
+fn inspect_trace(bytes: &[u8]) {
+    let c = trace::check(bytes);
+    match c {
+        Checked::Refused(r) => say_line(b"trace refused", r as u64),
+        Checked::Accepted(header) => say_accepted(header, trace::writes(bytes, header)),
+    }
+}
+
+// The longest trace has 64,048 bytes. One byte more is read, so that a longer input shows its wrong length.
+fn main() {
+    let mut space = [0u8; 64049];
+    let n = io::read_full(libc::STDIN_FILENO, &mut space);
+    inspect_trace(&space[..n]);
+}
