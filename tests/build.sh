@@ -12,5 +12,5 @@ build_over_host() { # NAME
     mkdir -p target/native
     quietly rt check host
     quietly tools/native lib host target/native/libhost.a
-    quietly gcc -std=c99 -O2 -Wall -Wextra -Werror -Iinclude "tests/$1.c" target/native/libhost.a -o "target/native/$1"
+    quietly gcc -std=c99 -O3 -Wall -Wextra -Werror -Iinclude "tests/$1.c" target/native/libhost.a -o "target/native/$1"
 }

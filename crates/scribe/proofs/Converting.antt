@@ -18,11 +18,11 @@ use Rattle.trace.specs.Check.{refusalOf, traceOf, decode, checkOf}
 use Rattle.trace.specs.Check.Decoded.{Whole}
 use Rattle.trace.specs.declared.Header.{Header}
 use Rattle.trace.specs.declared.Checked.the-variants.{Refused, Accepted}
-use Rattle.trace.proofs.Laws.{unstored}
 use Rattle.trace.proofs.Accept.{accepted, refused-is}
 use Rattle.trace.proofs.Sizes.{length-header, length-encode}
 use Rattle.trace.proofs.Round.{trace-encode, decode-encode}
 use Rattle.trace.proofs.Whole.{proper, encode-trace, length-trace}
+use Rattle.scribe.proofs.Laws.{unstored}
 use Rattle.scribe.specs.Write.{convertRefusal, converted, ConvertedTo, ConvertsBack}
 
 -- the header and then the records, in the other order, are the conversion

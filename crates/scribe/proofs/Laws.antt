@@ -1,8 +1,8 @@
 -- Laws of the writer and the converter.
-use mathlib.Core.Path.{_≡_}
+use mathlib.Core.Path.{_≡_, refl}
 use mathlib.Core.List.{List}
 use mathlib.Core.Bool.{true, _&&_}
-use Prim.Native.Nat.{ℕ, _+_, _*_, _≤_, _<_}
+use Prim.Native.Nat.{ℕ, zero, suc, _+_, _*_, _≤_, _<_}
 use native.Mathlib.Numerals.{add-one}
 use lib.ListN.{length, getD, take}
 use lib.Seq.{sets, take-suc}
@@ -17,7 +17,7 @@ use Rattle.trace.specs.Layout.{Trace, recordLimit, fileLength, isWrite, knownKi
 use Rattle.trace.specs.Encode.{recordBytes, recordsTo}
 use Rattle.trace.proofs.Lists.{writes-snoc, known-snoc}
 use Rattle.trace.proofs.Sizes.{length-records}
-use Rattle.scribe.specs.Write.{writeRefusal}
+use Rattle.scribe.specs.Write.{writeRefusal, stored}
 
 -- a turn of the pass over the kinds
 pub writes-more : (l : List ℕ) (i : ℕ) → i < length l → writesIn (take (i + 1) l) ≡ writesIn (take i l) + isWrite (getD l i 0)
@@ -61,3 +61,8 @@ granted t room h =
       range = h8 .0;
       long = leb-true (fileLength p) room (h13 .0);
     }
+
+-- on a refusal nothing is stored
+pub unstored : (r : ℕ) (lent written : List ℕ) → (r ≡ 0 → ⊥) → lent ≡ stored r lent written
+unstored zero lent written h = absurd (h refl)
+unstored (suc r) lent written h = refl

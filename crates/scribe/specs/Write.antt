@@ -1,27 +1,23 @@
 -- The writer and the converter: their refusals in order, and what they store.
-use Prim.Native.Nat.{ℕ}
+use Prim.Native.Nat.{ℕ, zero, suc}
 use mathlib.Core.List.{List}
 use mathlib.Core.Bool.{_&&_}
 use mathlib.Core.Path.{_≡_}
 use lib.ListN.{length, take}
+use lib.Seq.{sets}
 use lib.Dec.{eqb, leb}
 use Rattle.word.specs.declared.Order.{Order}
 use Rattle.refusal.specs.Refusals.{demand, orElse, tooMany, wrongLength, badField, outOfRange, noRoom}
 use Rattle.settings.specs.Settings.{inRange}
 use Rattle.settings.specs.declared.Settings.{Settings}
-use Rattle.trace.specs.Layout.{Trace, recordLimit, fileLength, knownKinds, writesIn}
+use Rattle.trace.specs.Layout.{Trace, recordLimit, fileLength, knownKinds}
 use Rattle.trace.specs.Encode.{encode, turned}
-use Rattle.trace.specs.Check.{refusalOf, traceOf, decode, stored}
+use Rattle.trace.specs.Check.{refusalOf, traceOf, decode}
 use Rattle.trace.specs.Check.Decoded.{Whole}
-use Rattle.scribe.specs.declared.Kinds.{Kinds}
 
 -- the writer takes settings, an order, a list of pages and a list of kinds
 abbrev pub traceFrom : Settings → Order → List ℕ → List ℕ → Trace
 traceFrom settings order pages kinds = record { settings = settings; order = order; pages = pages; kinds = kinds }
-
--- what one pass over kinds finds: none is bad, how many are writes
-abbrev pub kindsOf : List ℕ → Kinds
-kindsOf kinds = record { known = knownKinds kinds; writes = writesIn kinds }
 
 -- the writer checks 4 (longer list), 5, 6, 8, 13, where it is lent so many bytes
 unfoldable pub writeRefusal : Trace → ℕ → ℕ
@@ -31,6 +27,11 @@ writeRefusal t room =
     (demand (knownKinds (t .kinds)) badField
     (demand (inRange (t .settings)) outOfRange
     (demand (leb (fileLength (length (t .pages))) room) noRoom 0))))
+
+-- what stands in the lent bytes: what was written at the front of what was there, or on a refusal what was there
+abbrev pub stored : ℕ → List ℕ → List ℕ → List ℕ
+stored zero lent written = sets lent 0 written
+stored (suc r) lent written = lent
 
 -- the writer on lent bytes: its answer, and every byte afterwards
 pub record WrittenTo (t : Trace) (out : List ℕ) (answer : ℕ) (out′ : List ℕ) : Type 0 where

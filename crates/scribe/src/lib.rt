@@ -4,10 +4,10 @@ ghost use Prim.Native.Nat.{_+_, _≤_};
 ghost use mathlib.Core.List.{[], _∷_};
 ghost use lib.ListN.{length, getD};
 ghost use lib.Seq.{sets};
-ghost use Rattle.trace.specs.Layout.{recordLimit, fileLength};
+ghost use Rattle.trace.specs.Layout.{recordLimit, fileLength, knownKinds, writesIn};
 ghost use Rattle.trace.specs.Encode.{markBytes, countBytes, shortBytes, longBytes, headerBytes, recordBytes, recordsTo, encode, other};
 ghost use Rattle.trace.specs.Check.{checkOf, traceOf};
-ghost use Rattle.scribe.specs.Write.{traceFrom, kindsOf, writeRefusal, WrittenTo, ReadsBack, ConvertedTo, ConvertsBack};
+ghost use Rattle.scribe.specs.Write.{traceFrom, writeRefusal, WrittenTo, ReadsBack, ConvertedTo, ConvertsBack};
 use refusal::demanded;
 use settings::Settings;
 use trace::Checked;
@@ -21,7 +21,7 @@ pub struct Kinds {
 }
 
 fn survey_kinds(kinds: &[u16]) -> Kinds
-    ensures { λ r. ⌜ (r ≡ kindsOf (now (kinds .entry))) × (r .writes ≤ length (now (kinds .entry))) ⌝ }
+    ensures { λ r. ⌜ (r .known ≡ knownKinds (now (kinds .entry))) × (r .writes ≡ writesIn (now (kinds .entry))) × (r .writes ≤ length (now (kinds .entry))) ⌝ }
 {
     let mut known = true;
     let mut writes: usize = 0;

@@ -11,8 +11,9 @@ use Rattle.word.specs.declared.Order.{Order}
 use Rattle.refusal.specs.Refusals.{demand}
 use Rattle.refusal.proofs.Laws.{met, both, neither}
 use Rattle.settings.specs.Settings.{inRange}
-use Rattle.trace.specs.Layout.{Trace, headerLength, fileLength, markOf, firstZeroAt, lastZeroAt, writesAt, countAt, settingsAt, pageAt, kindAt, zeroAt, upTo, knownKinds, allZero, writesIn, traceAt, recordOf}
-use Rattle.trace.specs.Check.{surveyOf, layoutOf, contentOf, refusalIn, refusalMarked, refusalOf, traceOf, decoded, decode, headerOf, checked, checkOf}
+use Rattle.trace.specs.Layout.{Trace, headerLength, fileLength, markOf, firstZeroAt, lastZeroAt, writesAt, countAt, settingsAt, pageAt, kindAt, kindsAt, zerosAt, knownKinds, allZero, writesIn, traceAt, recordOf}
+use Rattle.trace.specs.Check.{zerosRight, layoutOf, contentOf, refusalIn, refusalMarked, refusalOf, traceOf, Decoded, decoded, decode, headerOf, checked, checkOf, numberOfAnswer}
+use Rattle.trace.specs.Check.Decoded.{Whole, Faulty}
 use Rattle.trace.specs.declared.Mark.{Mark}
 use Rattle.trace.specs.declared.Mark.the-variants.{Known, Unknown}
 use Rattle.trace.specs.declared.Header.{Header}
@@ -25,33 +26,32 @@ use Rattle.trace.proofs.Laws.{LaidOut, laid-out}
 pub record Filled (o : Order) (s : List ℕ) : Type 0 where
   pub zero₁ : firstZeroAt o s ≡ 0
   pub zero₂ : lastZeroAt o s ≡ 0
-  pub zeros : allZero (upTo (zeroAt o s) (countAt o s)) ≡ true
-  pub known : knownKinds (upTo (kindAt o s) (countAt o s)) ≡ true
-  pub writes : writesAt o s ≡ writesIn (upTo (kindAt o s) (countAt o s))
+  pub zeros : allZero (zerosAt o s) ≡ true
+  pub known : knownKinds (kindsAt o s) ≡ true
+  pub writes : writesAt o s ≡ writesIn (kindsAt o s)
   pub range : inRange (settingsAt o s) ≡ true
 
 filled : (o : Order) (s : List ℕ) → contentOf o s ≡ 0 → Filled o s
-unfolding contentOf surveyOf
+unfolding contentOf
 filled o s h =
-    let n = countAt o s in
     let z1 = eqb (firstZeroAt o s) 0 in
     let z2 = eqb (lastZeroAt o s) 0 in
-    let zs = allZero (upTo (zeroAt o s) n) in
-    let ks = knownKinds (upTo (kindAt o s) n) in
-    let w = writesIn (upTo (kindAt o s) n) in
+    let zs = allZero (zerosAt o s) in
+    let ks = knownKinds (kindsAt o s) in
+    let w = writesIn (kindsAt o s) in
     let t7 = eqb (writesAt o s) w in
     let t8 = inRange (settingsAt o s) in
-    let h6 = met ((z1 && z2) && (zs && ks)) 5 (demand t7 7 (demand t8 8 0)) h in
+    let h6 = met (zerosRight o s && ks) 5 (demand t7 7 (demand t8 8 0)) h in
     let h7 = met t7 6 (demand t8 8 0) (h6 .1) in
     let h8 = met t8 7 0 (h7 .1) in
-    let b = both (z1 && z2) (zs && ks) (h6 .0) in
-    let z = both z1 z2 (b .0) in
-    let r = both zs ks (b .1) in
+    let b = both (zerosRight o s) ks (h6 .0) in
+    let z = both z1 (z2 && zs) (b .0) in
+    let y = both z2 zs (z .1) in
     record {
       zero₁ = eqb-true (firstZeroAt o s) 0 (z .0);
-      zero₂ = eqb-true (lastZeroAt o s) 0 (z .1);
-      zeros = r .0;
-      known = r .1;
+      zero₂ = eqb-true (lastZeroAt o s) 0 (y .0);
+      zeros = y .1;
+      known = b .1;
       writes = eqb-true (writesAt o s) w (h7 .0);
       range = h8 .0;
     }
@@ -78,27 +78,48 @@ pub trace-is : (o : Order) (s : List ℕ) → markOf s ≡ Known o → traceOf s
 unfolding traceOf
 trace-is o s e = rw e
 
-pub accepts : (r : ℕ) (t : Trace) (h : Header) → checked (decoded r t) ≡ Accepted h → (r ≡ 0) × (h ≡ headerOf t)
-accepts zero t h e = (refl, cc)
-accepts (suc r) t h e = absurd (let z : _≡_ {A = ℕ} 0 1 = cc in omega arith)
+-- the enum's answers taken back to what was decoded
+pub whole-of : (d : Decoded) (h : Header) → checked d ≡ Accepted h → (t : Trace) × (d ≡ Whole t) × (h ≡ headerOf t)
+whole-of (Whole t) h e = (t, refl, cc)
+whole-of (Faulty r) h e = absurd (let z : _≡_ {A = ℕ} 0 1 = cc in omega arith)
 
-refuses : (q : ℕ) (t : Trace) (r : ℕ) → checked (decoded q t) ≡ Refused r → (q ≡ r) × (r ≡ 0 → ⊥)
-refuses zero t r e = absurd (let z : _≡_ {A = ℕ} 0 1 = cc in omega arith)
-refuses (suc q) t r e = let same : suc q ≡ r = cc in (same, λ z. omega arith)
+pub faulty-of : (d : Decoded) (r : ℕ) → checked d ≡ Refused r → d ≡ Faulty r
+faulty-of (Whole t) r e = absurd (let z : _≡_ {A = ℕ} 0 1 = cc in omega arith)
+faulty-of (Faulty q) r e = cc
+
+pub decoded-whole : (r : ℕ) (t u : Trace) → decoded r t ≡ Whole u → (r ≡ 0) × (t ≡ u)
+decoded-whole zero t u e = (refl, cc)
+decoded-whole (suc r) t u e = absurd (let z : _≡_ {A = ℕ} 0 1 = cc in omega arith)
+
+decoded-faulty : (q : ℕ) (t : Trace) (r : ℕ) → decoded q t ≡ Faulty r → (q ≡ r) × (r ≡ 0 → ⊥)
+decoded-faulty zero t r e = absurd (let z : _≡_ {A = ℕ} 0 1 = cc in omega arith)
+decoded-faulty (suc q) t r e = let same : suc q ≡ r = cc in (same, λ z. omega arith)
 
 pub refused-is : (s : List ℕ) (r : ℕ) → checkOf s ≡ Refused r → (refusalOf s ≡ r) × (r ≡ 0 → ⊥)
 unfolding checkOf decode
-refused-is s r e = refuses (refusalOf s) (traceOf s) r e
+refused-is s r e = decoded-faulty (refusalOf s) (traceOf s) r (faulty-of (decode s) r e)
+
+-- the number of the checker's answer is the trace's refusal
+number-decoded : (r : ℕ) (t : Trace) → numberOfAnswer (checked (decoded r t)) ≡ r
+number-decoded zero t = refl
+number-decoded (suc r) t = refl
+
+pub number-checked : (s : List ℕ) → numberOfAnswer (checkOf s) ≡ refusalOf s
+unfolding checkOf decode
+number-checked s = number-decoded (refusalOf s) (traceOf s)
 
 -- ---- by the header that the checker tells
 
 pub accepted : (s : List ℕ) (h : Header) → checkOf s ≡ Accepted h → (refusalOf s ≡ 0) × (h ≡ headerOf (traceOf s))
 unfolding checkOf decode
-accepted s h e = accepts (refusalOf s) (traceOf s) h e
+accepted s h e =
+    let w = whole-of (decode s) h e in
+    let d = decoded-whole (refusalOf s) (traceOf s) (w .0) (w .1) in
+    (d .0, rw (d .1) (w .2))
 
-pub accept : (s : List ℕ) (h : Header) → refusalOf s ≡ 0 → h ≡ headerOf (traceOf s) → checkOf s ≡ Accepted h
-unfolding checkOf decode
-accept s h z e = rw (z, e)
+pub accepted-decodes : (s : List ℕ) (h : Header) → checkOf s ≡ Accepted h → decode s ≡ Whole (traceOf s)
+unfolding decode
+accepted-decodes s h e = rw (accepted s h e .0)
 
 pub accepted-passed : (s : List ℕ) (h : Header) → checkOf s ≡ Accepted h → Passed (h .order) s × (h .count ≡ countAt (h .order) s)
 unfolding traceAt

@@ -14,7 +14,7 @@ use Rattle.word.specs.declared.Order.{Order}
 use Rattle.word.specs.declared.Order.the-variants.{High, Low}
 use Rattle.word.proofs.Laws.{bytes-again, bytes-take, bytes-drop, part}
 use Rattle.refusal.proofs.Laws.{both}
-use Rattle.trace.specs.Layout.{markHigh, markLow, begins, pickMark, markOf, fileLength, editionAt, firstZeroAt, countAt, offsetAt, writesAt, lengthAt, lastZeroAt, settingsAt, pageAt, kindAt, zeroAt, upTo, writesIn, traceAt}
+use Rattle.trace.specs.Layout.{markHigh, markLow, begins, pickMark, markOf, fileLength, editionAt, firstZeroAt, countAt, offsetAt, writesAt, lengthAt, lastZeroAt, settingsAt, pageAt, kindAt, zeroAt, pagesAt, kindsAt, writesIn, traceAt}
 use Rattle.trace.specs.Encode.{markBytes, countBytes, shortBytes, longBytes, headerBytes, recordBytes, recordsTo, encode}
 use Rattle.trace.specs.declared.Mark.the-variants.{Known, Unknown}
 use Rattle.trace.proofs.Lists.{length-upTo, upTo-at, zero-at}
@@ -114,8 +114,8 @@ pub encode-again : (o : Order) (s : List ℕ) → Bytes s → Passed o s → enc
 unfolding encode traceAt
 encode-again o s bs h =
     let n = countAt o s in
-    let pages = upTo (pageAt o s) n in
-    let kinds = upTo (kindAt o s) n in
+    let pages = pagesAt o s in
+    let kinds = kindsAt o s in
     let l = h .laid in
     let f = h .fill in
     let hp : (i : ℕ) → i < n → getD pages i 0 ≡ pageAt o s i = λ i lt. upTo-at (pageAt o s) n i lt in

@@ -10,7 +10,7 @@ use Rattle.word.specs.declared.Order.{Order}
 use Rattle.refusal.specs.Refusals.{demand}
 use Rattle.refusal.proofs.Laws.{met, both}
 use Rattle.trace.specs.Layout.{Trace, edition, recordLimit, headerLength, fileLength, editionAt, countAt, offsetAt, lengthAt, pageAt, settingsAt, traceAt}
-use Rattle.trace.specs.Check.{layoutOf, lengthsRight, decoded, checked, stored}
+use Rattle.trace.specs.Check.{layoutOf, lengthsRight, decoded, checked}
 use Rattle.trace.specs.declared.Checked.the-variants.{Refused, Accepted}
 use Rattle.trace.proofs.Lists.{length-upTo}
 
@@ -46,11 +46,6 @@ laid-out o s h =
 pub refused : (r : ℕ) (t : Trace) → (r ≡ 0 → ⊥) → Refused r ≡ checked (decoded r t)
 refused zero t h = absurd (h refl)
 refused (suc r) t h = refl
-
--- and nothing is stored
-pub unstored : (r : ℕ) (lent written : List ℕ) → (r ≡ 0 → ⊥) → lent ≡ stored r lent written
-unstored zero lent written h = absurd (h refl)
-unstored (suc r) lent written h = refl
 
 -- the header that the checker tells is that of the trace
 pub told : (o : Order) (s : List ℕ) → Accepted (record { settings = settingsAt o s; order = o; count = countAt o s }) ≡ checked (decoded 0 (traceAt o s))

@@ -12,7 +12,7 @@ use Rattle.trace.specs.Check.Decoded.{Whole}
 use Rattle.trace.specs.declared.Header.{Header}
 use Rattle.trace.specs.declared.Checked.the-variants.{Accepted}
 use Rattle.trace.proofs.Lists.{known-le}
-use Rattle.trace.proofs.Accept.{accepted, counts-are}
+use Rattle.trace.proofs.Accept.{accepted, accepted-decodes, counts-are}
 use Rattle.trace.proofs.Whole.{proper}
 
 pub record Promised (s : List ℕ) (h : Header) : Type 0 where
@@ -27,14 +27,13 @@ pub record Promised (s : List ℕ) (h : Header) : Type 0 where
 
 -- the promise of `check`
 pub promised : (s : List ℕ) (h : Header) → Bytes s → checkOf s ≡ Accepted h → Promised s h
-unfolding decode
 promised s h bs e =
     let a = accepted s h e in
     let n = counts-are s h e in
     let p = proper s bs (a .0) in
     let few = p .few in
     record {
-      decodes = rw (a .0);
+      decodes = accepted-decodes s h e;
       header = a .1;
       pages-long = n .0;
       kinds-long = n .1;

@@ -2,67 +2,73 @@
 use mathlib.Core.Path.{_≡_, refl, sym, ap, _∙_}
 use mathlib.Core.List.{List}
 use mathlib.Core.Bool.{Bool, true, false, _&&_}
-use Prim.Native.Nat.{ℕ}
+use Prim.Native.Nat.{ℕ, _≤_}
+use native.Mathlib.Omega.{arith}
 use lib.ListN.{length, take}
 use lib.Seq.{sets}
 use lib.Dec.{leb}
 use borrow.Author.Tests.{leb-true}
 use Rattle.word.specs.Number.{Bytes}
 use Rattle.word.proofs.Laws.{sets-front}
-use Rattle.refusal.specs.Refusals.{demand, orElse}
-use Rattle.refusal.proofs.Laws.{met, both, neither, or-first}
-use Rattle.trace.specs.Check.{refusalOf, traceOf, checkOf, readRefusal, readOf, ReadInto, WritesAgain}
+use Rattle.refusal.specs.Refusals.{demand, noRoom}
+use Rattle.refusal.proofs.Laws.{met, both}
+use Rattle.trace.specs.Layout.{Trace}
+use Rattle.trace.specs.Encode.{encode}
+use Rattle.trace.specs.Check.{traceOf, Decoded, decoded, decode, checkOf, fitted, readOf, pagesInto, kindsInto, ReadInto, WritesAgain}
+use Rattle.trace.specs.Check.Decoded.{Whole, Faulty}
 use Rattle.trace.specs.declared.Header.{Header}
 use Rattle.trace.specs.declared.Checked.{Checked}
 use Rattle.trace.specs.declared.Checked.the-variants.{Refused, Accepted}
-use Rattle.trace.proofs.Laws.{refused, unstored}
-use Rattle.trace.proofs.Accept.{accepts, accepted, accept, refused-is, counts-are}
-use Rattle.trace.proofs.Whole.{encode-trace}
-
--- a list of p places for pages and one of k for kinds hold n
-abbrev pub hold : ℕ → ℕ → ℕ → Bool
-hold n p k = leb n p && leb n k
+use Rattle.trace.proofs.Accept.{whole-of, faulty-of, decoded-whole, accepted, accepted-decodes, counts-are}
+use Rattle.trace.proofs.Whole.{proper-of, encode-decode}
 
 module _ (s pages kinds : List ℕ) (h : Header) (e : checkOf s ≡ Accepted h) where
-  room-refusal : readRefusal s (length pages) (length kinds) ≡ demand (hold (h .count) (length pages) (length kinds)) 13 0
-  unfolding readRefusal
-  room-refusal = rw (accepted s h e .0, counts-are s h e .0)
-
-  pub read-whole : (pages′ kinds′ : List ℕ) → hold (h .count) (length pages) (length kinds) ≡ true
-      → pages′ ≡ sets pages 0 (traceOf s .pages) → kinds′ ≡ sets kinds 0 (traceOf s .kinds) → ReadInto s pages kinds (Accepted h) pages′ kinds′
+  fits-as : (fits : Bool) → (leb (h .count) (length pages) && leb (h .count) (length kinds)) ≡ fits
+      → readOf s (length pages) (length kinds) ≡ decoded (demand fits noRoom 0) (traceOf s)
   unfolding readOf
-  read-whole pages′ kinds′ fits p k =
-      let r : readRefusal s (length pages) (length kinds) ≡ 0 = room-refusal ∙ rw fits in
+  fits-as fits test = rw (accepted-decodes s h e, counts-are s h e .0, counts-are s h e .1, test)
+
+  pub read-whole : (pages′ kinds′ : List ℕ) → (leb (h .count) (length pages) && leb (h .count) (length kinds)) ≡ true
+      → pages′ ≡ sets pages 0 (traceOf s .pages) → kinds′ ≡ sets kinds 0 (traceOf s .kinds) → ReadInto s pages kinds (Accepted h) pages′ kinds′
+  read-whole pages′ kinds′ test p k =
+      let r = fits-as true test in
       record { answers = rw r (ap Accepted (accepted s h e .1)); pages-hold = rw r p; kinds-hold = rw r k }
 
-  pub read-no-room : hold (h .count) (length pages) (length kinds) ≡ false → ReadInto s pages kinds (Refused 13) pages kinds
-  unfolding readOf
-  read-no-room fails =
-      let r : readRefusal s (length pages) (length kinds) ≡ 13 = room-refusal ∙ rw fails in
-      record { answers = rw r; pages-hold = rw r; kinds-hold = rw r }
+  pub read-no-room : (leb (h .count) (length pages) && leb (h .count) (length kinds)) ≡ false → ReadInto s pages kinds (Refused noRoom) pages kinds
+  read-no-room test = let r = fits-as false test in record { answers = rw r; pages-hold = rw r; kinds-hold = rw r }
 
 pub read-refused : (s pages kinds : List ℕ) (r : ℕ) → checkOf s ≡ Refused r → ReadInto s pages kinds (Refused r) pages kinds
-unfolding readOf readRefusal
-read-refused s pages kinds r e =
-    let f = refused-is s r e in
-    let t = traceOf s in
-    let next = demand (hold (length (t .pages)) (length pages) (length kinds)) 13 0 in
-    let first : orElse (refusalOf s) next ≡ r = rw (f .0) (sym (or-first r next (f .1))) in
-    record { answers = rw first (refused r t (f .1)); pages-hold = rw first (unstored r pages (t .pages) (f .1)); kinds-hold = rw first (unstored r kinds (t .kinds) (f .1)) }
+unfolding readOf checkOf
+read-refused s pages kinds r e = let f = faulty-of (decode s) r e in record { answers = rw f; pages-hold = rw f; kinds-hold = rw f }
+
+-- a trace that fits was decoded, and both lists hold it
+pub fitted-whole : (pages kinds : ℕ) (d : Decoded) (t : Trace) → fitted pages kinds d ≡ Whole t → (d ≡ Whole t) × (length (t .pages) ≤ pages) × (length (t .kinds) ≤ kinds)
+fitted-whole pages kinds (Faulty r) t e = absurd (let z : _≡_ {A = ℕ} 0 1 = cc in omega arith)
+fitted-whole pages kinds (Whole u) t e =
+    let p = leb (length (u .pages)) pages in
+    let k = leb (length (u .kinds)) kinds in
+    let w = decoded-whole (demand (p && k) noRoom 0) u t e in
+    let b = both p k (met (p && k) 12 0 (w .0) .0) in
+    rw (← w .1) (refl, leb-true (length (u .pages)) pages (b .0), leb-true (length (u .kinds)) kinds (b .1))
+
+encodes : (s pages kinds pages′ kinds′ : List ℕ) (t : Trace) → Bytes s → readOf s (length pages) (length kinds) ≡ Whole t
+    → pages′ ≡ sets pages 0 (t .pages) → kinds′ ≡ sets kinds 0 (t .kinds)
+    → encode (record { settings = t .settings; order = t .order; pages = take (length (t .pages)) pages′; kinds = take (length (t .pages)) kinds′ }) ≡ s
+unfolding readOf
+encodes s pages kinds pages′ kinds′ t bs w p k =
+    let n = length (t .pages) in
+    let f = fitted-whole (length pages) (length kinds) (decode s) t w in
+    let same : length (t .kinds) ≡ n = sym (proper-of s t bs (f .0) .same) in
+    let fits : n ≤ length kinds = rw same at (f .2) in
+    rw (p, k, sets-front pages (t .pages) n refl (f .1), sets-front kinds (t .kinds) n same fits) (encode-decode s t bs (f .0))
 
 -- what the reader gives has the encoding that was read
 pub writes-again : (s pages kinds : List ℕ) (answer : Checked) (pages′ kinds′ : List ℕ) → Bytes s → ReadInto s pages kinds answer pages′ kinds′ → WritesAgain s answer pages′ kinds′
-unfolding readOf readRefusal
 writes-again s pages kinds answer pages′ kinds′ bs i h e =
-    let t = traceOf s in
-    let n = length (t .pages) in
-    let a = accepts (readRefusal s (length pages) (length kinds)) t h (sym (i .answers) ∙ e) in
-    let b = neither (refusalOf s) (demand (hold n (length pages) (length kinds)) 13 0) (a .0) in
-    let fits = both (leb n (length pages)) (leb n (length kinds)) (met (hold n (length pages) (length kinds)) 12 0 (b .1) .0) in
-    let c = counts-are s h (accept s h (b .0) (a .1)) in
-    let p : take n pages′ ≡ t .pages = rw (i .pages-hold, a .0) (sets-front pages (t .pages) n refl (leb-true n (length pages) (fits .0))) in
-    let k : take n kinds′ ≡ t .kinds = rw (i .kinds-hold, a .0) (sets-front kinds (t .kinds) n (c .1 ∙ sym (c .0)) (leb-true n (length kinds) (fits .1))) in
-    rw (a .1, p, k) (encode-trace s bs (b .0))
+    let w = whole-of (readOf s (length pages) (length kinds)) h (sym (i .answers) ∙ e) in
+    let p : pages′ ≡ sets pages 0 (w .0 .pages) = i .pages-hold ∙ ap (λ (d : Decoded). pagesInto d pages) (w .1) in
+    let k : kinds′ ≡ sets kinds 0 (w .0 .kinds) = i .kinds-hold ∙ ap (λ (d : Decoded). kindsInto d kinds) (w .1) in
+    rw (w .2) (encodes s pages kinds pages′ kinds′ (w .0) bs (w .1) p k)
 
 -- any two outcomes that the reader's contract allows are the same
 pub read-one : (s pages kinds : List ℕ) (a b : Checked) (pages₁ pages₂ kinds₁ kinds₂ : List ℕ)

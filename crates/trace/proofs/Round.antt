@@ -16,7 +16,7 @@ use Rattle.settings.specs.declared.Settings.{Settings}
 use Rattle.settings.proofs.Laws.{ranges}
 use Rattle.trace.specs.Layout.{Trace, recordLimit, headerLength, fileLength, markOf, editionAt, firstZeroAt, countAt, offsetAt, writesAt, lengthAt, lastZeroAt, settingsAt, pageAt, kindAt, zeroAt, upTo, writesIn, traceAt}
 use Rattle.trace.specs.Encode.{countBytes, shortBytes, longBytes, headerBytes, recordBytes, recordsTo, encode, Proper}
-use Rattle.trace.specs.Check.{surveyOf, layoutOf, contentOf, refusalIn, refusalOf, traceOf, decode}
+use Rattle.trace.specs.Check.{layoutOf, contentOf, refusalIn, refusalOf, traceOf, decode}
 use Rattle.trace.specs.Check.Decoded.{Whole}
 use Rattle.trace.specs.declared.Mark.the-variants.{Known}
 use Rattle.trace.proofs.Lists.{upTo-is, all-zero, writes-le, known-le}
@@ -166,7 +166,7 @@ module _ (t : Trace) (ok : Proper t) where
       (simp (le-leb n recordLimit (ok .few), eq-eqb (fileLength n) (fileLength n) refl))
 
   content-read : contentOf (t .order) (encode t) ≡ 0
-  unfolding contentOf surveyOf
+  unfolding contentOf
   content-read =
       let o = t .order in
       let w = writesIn (t .kinds) in

@@ -1,7 +1,7 @@
 -- Bytes that nothing refuses hold a trace that the layout can hold, and are its encoding.
-use mathlib.Core.Path.{_≡_, refl, sym, ap, _∙_}
+use mathlib.Core.Path.{_≡_, sym, ap, _∙_}
 use mathlib.Core.List.{List}
-use Prim.Native.Nat.{ℕ, zero, suc, _+_, _*_, _^_}
+use Prim.Native.Nat.{ℕ, _+_, _*_, _^_}
 use native.Mathlib.Omega.{arith}
 use lib.ListN.{length}
 use Rattle.word.specs.Number.{Bytes}
@@ -9,10 +9,10 @@ use Rattle.word.specs.declared.Order.{Order}
 use Rattle.word.proofs.Laws.{number-at-lt}
 use Rattle.trace.specs.Layout.{Trace, fileLength, countAt, settingsAt, pageAt, kindAt, traceAt}
 use Rattle.trace.specs.Encode.{encode, Proper}
-use Rattle.trace.specs.Check.{refusalOf, traceOf, decoded, decode}
+use Rattle.trace.specs.Check.{refusalOf, traceOf, decode}
 use Rattle.trace.specs.Check.Decoded.{Whole}
 use Rattle.trace.proofs.Lists.{length-upTo, upTo-lt}
-use Rattle.trace.proofs.Accept.{Passed, passed, trace-is}
+use Rattle.trace.proofs.Accept.{Passed, passed, trace-is, decoded-whole}
 use Rattle.trace.proofs.Again.{encode-again}
 use Rattle.trace.proofs.Sizes.{length-encode}
 
@@ -42,13 +42,15 @@ module _ (s : List ℕ) (bs : Bytes s) (z : refusalOf s ≡ 0) where
   pub length-trace : length s ≡ fileLength (length (traceOf s .pages))
   length-trace = ap length (sym encode-trace) ∙ length-encode (traceOf s)
 
-decoded-whole : (r : ℕ) (t u : Trace) → decoded r t ≡ Whole u → (r ≡ 0) × (t ≡ u)
-decoded-whole zero t u e = (refl, cc)
-decoded-whole (suc r) t u e = absurd (let z : _≡_ {A = ℕ} 0 1 = cc in omega arith)
+-- what decodes is not refused, and holds the trace
+pub decode-whole : (s : List ℕ) (t : Trace) → decode s ≡ Whole t → (refusalOf s ≡ 0) × (traceOf s ≡ t)
+unfolding decode
+decode-whole s t e = decoded-whole (refusalOf s) (traceOf s) t e
+
+-- what decodes is a trace that the layout can hold
+pub proper-of : (s : List ℕ) (t : Trace) → Bytes s → decode s ≡ Whole t → Proper t
+proper-of s t bs e = let d = decode-whole s t e in rw (← d .1) (proper s bs (d .0))
 
 -- encoding what was decoded gives the bytes back
 pub encode-decode : (s : List ℕ) (t : Trace) → Bytes s → decode s ≡ Whole t → encode t ≡ s
-unfolding decode
-encode-decode s t bs e =
-    let d = decoded-whole (refusalOf s) (traceOf s) t e in
-    rw (← d .1) (encode-trace s bs (d .0))
+encode-decode s t bs e = let d = decode-whole s t e in rw (← d .1) (encode-trace s bs (d .0))

@@ -10,18 +10,13 @@ use Rattle.word.specs.declared.Order.{Order}
 use Rattle.word.specs.declared.Order.the-variants.{High}
 use Rattle.refusal.specs.Refusals.{demand, orElse, tooShort, unknownMark, otherEdition, tooMany, wrongLength, badField, wrongWrites, outOfRange, noRoom}
 use Rattle.settings.specs.Settings.{inRange}
-use Rattle.trace.specs.Layout.{Trace, edition, recordLimit, headerLength, fileLength, markOf, editionAt, firstZeroAt, countAt, offsetAt, writesAt, lengthAt, settingsAt, lastZeroAt, kindAt, zeroAt, knownKinds, writesIn, allZero, upTo, traceAt}
+use Rattle.trace.specs.Layout.{Trace, edition, recordLimit, headerLength, fileLength, markOf, editionAt, firstZeroAt, countAt, offsetAt, writesAt, lengthAt, settingsAt, lastZeroAt, kindsAt, zerosAt, knownKinds, writesIn, allZero, traceAt}
 use Rattle.trace.specs.Encode.{encode}
 use Rattle.trace.specs.declared.Mark.{Mark}
 use Rattle.trace.specs.declared.Mark.the-variants.{Known, Unknown}
 use Rattle.trace.specs.declared.Header.{Header}
-use Rattle.trace.specs.declared.Survey.{Survey}
 use Rattle.trace.specs.declared.Checked.{Checked}
 use Rattle.trace.specs.declared.Checked.the-variants.{Refused, Accepted}
-
--- what one pass over the first n records finds: no bad kind, zero fields zero, how many writes
-unfoldable pub surveyOf : Order → List ℕ → ℕ → Survey
-surveyOf o s n = record { known = knownKinds (upTo (kindAt o s) n); zeros = allZero (upTo (zeroAt o s) n); writes = writesIn (upTo (kindAt o s) n) }
 
 -- offset, length field and actual length
 abbrev pub lengthsRight : Order → List ℕ → Bool
@@ -35,15 +30,15 @@ layoutOf o s =
     (demand (leb (countAt o s) recordLimit) tooMany
     (demand (lengthsRight o s) wrongLength 0))
 
--- the zero fields of the header
+-- the zero fields of the header and of the records
 abbrev pub zerosRight : Order → List ℕ → Bool
-zerosRight o s = eqb (firstZeroAt o s) 0 && eqb (lastZeroAt o s) 0
+zerosRight o s = eqb (firstZeroAt o s) 0 && (eqb (lastZeroAt o s) 0 && allZero (zerosAt o s))
 
 -- refusals 6 to 8: zero fields and kinds, number of writes, settings
 unfoldable pub contentOf : Order → List ℕ → ℕ
 contentOf o s =
-    demand (zerosRight o s && (surveyOf o s (countAt o s) .zeros && surveyOf o s (countAt o s) .known)) badField
-    (demand (eqb (writesAt o s) (surveyOf o s (countAt o s) .writes)) wrongWrites
+    demand (zerosRight o s && knownKinds (kindsAt o s)) badField
+    (demand (eqb (writesAt o s) (writesIn (kindsAt o s))) wrongWrites
     (demand (inRange (settingsAt o s)) outOfRange 0))
 
 -- refusals 3 to 8 of bytes in a known order
@@ -96,29 +91,34 @@ unfoldable pub checkOf : List ℕ → Checked
 checkOf s = checked (decode s)
 
 -- the paper's number of an answer: 0, or the refusal
-abbrev pub numberOfChecked : Checked → ℕ
-numberOfChecked (Refused r) = r
-numberOfChecked (Accepted h) = 0
+abbrev pub numberOfAnswer : Checked → ℕ
+numberOfAnswer (Refused r) = r
+numberOfAnswer (Accepted h) = 0
 
 -- the reader needs n places in each list: after the trace's refusals 13
-unfoldable pub readRefusal : List ℕ → ℕ → ℕ → ℕ
-readRefusal s pages kinds =
-    orElse (refusalOf s) (demand (leb (length (traceOf s .pages)) pages && leb (length (traceOf s .pages)) kinds) noRoom 0)
+abbrev pub fitted : ℕ → ℕ → Decoded → Decoded
+fitted pages kinds (Whole t) = decoded (demand (leb (length (t .pages)) pages && leb (length (t .kinds)) kinds) noRoom 0) t
+fitted pages kinds (Faulty r) = Faulty r
 
--- the reader's answer, where it is lent so many places for pages and for kinds
-unfoldable pub readOf : List ℕ → ℕ → ℕ → Checked
-readOf s pages kinds = checked (decoded (readRefusal s pages kinds) (traceOf s))
+-- what the reader finds, where it is lent so many places for pages and for kinds
+unfoldable pub readOf : List ℕ → ℕ → ℕ → Decoded
+readOf s pages kinds = fitted pages kinds (decode s)
 
--- what stands in a lent list: what was written at the front of what was there, or on a refusal what was there
-abbrev pub stored : ℕ → List ℕ → List ℕ → List ℕ
-stored zero lent written = sets lent 0 written
-stored (suc r) lent written = lent
+-- a lent list of pages afterwards: the trace's at the front of what was there, or on a refusal what was there
+abbrev pub pagesInto : Decoded → List ℕ → List ℕ
+pagesInto (Whole t) lent = sets lent 0 (t .pages)
+pagesInto (Faulty r) lent = lent
+
+-- the same of kinds
+abbrev pub kindsInto : Decoded → List ℕ → List ℕ
+kindsInto (Whole t) lent = sets lent 0 (t .kinds)
+kindsInto (Faulty r) lent = lent
 
 -- the reader on lent lists: its answer, and every place of both lists afterwards
 pub record ReadInto (s pages kinds : List ℕ) (answer : Checked) (pages′ kinds′ : List ℕ) : Type 0 where
-  pub answers : answer ≡ readOf s (length pages) (length kinds)
-  pub pages-hold : pages′ ≡ stored (readRefusal s (length pages) (length kinds)) pages (traceOf s .pages)
-  pub kinds-hold : kinds′ ≡ stored (readRefusal s (length pages) (length kinds)) kinds (traceOf s .kinds)
+  pub answers : answer ≡ checked (readOf s (length pages) (length kinds))
+  pub pages-hold : pages′ ≡ pagesInto (readOf s (length pages) (length kinds)) pages
+  pub kinds-hold : kinds′ ≡ kindsInto (readOf s (length pages) (length kinds)) kinds
 
 -- reading, then writing: where the reader accepts, what it gives has the encoding that was read
 abbrev pub WritesAgain : List ℕ → Checked → List ℕ → List ℕ → Type 0

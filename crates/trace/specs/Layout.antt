@@ -132,6 +132,18 @@ abbrev pub upTo : (ℕ → ℕ) → ℕ → List ℕ
 upTo f zero = []
 upTo f (suc n) = upTo f n ++ (f n ∷ [])
 
+-- the pages of the records
+abbrev pub pagesAt : Order → List ℕ → List ℕ
+pagesAt o s = upTo (pageAt o s) (countAt o s)
+
+-- their kinds
+abbrev pub kindsAt : Order → List ℕ → List ℕ
+kindsAt o s = upTo (kindAt o s) (countAt o s)
+
+-- their zero fields
+abbrev pub zerosAt : Order → List ℕ → List ℕ
+zerosAt o s = upTo (zeroAt o s) (countAt o s)
+
 -- a trace: settings, an order, a list of pages and a list of kinds
 pub record Trace : Type 0 where
   pub settings : Settings
@@ -141,7 +153,7 @@ pub record Trace : Type 0 where
 
 -- the trace that bytes in an order hold
 unfoldable pub traceAt : Order → List ℕ → Trace
-traceAt o s = record { settings = settingsAt o s; order = o; pages = upTo (pageAt o s) (countAt o s); kinds = upTo (kindAt o s) (countAt o s) }
+traceAt o s = record { settings = settingsAt o s; order = o; pages = pagesAt o s; kinds = kindsAt o s }
 
 -- record i of a trace
 abbrev pub recordOf : Trace → ℕ → Record

@@ -3,8 +3,8 @@ ghost use mathlib.Core.Path.{_≡_};
 ghost use Prim.Native.Nat.{_≤_, _<_};
 ghost use lib.ListN.{length};
 ghost use lib.Seq.{sets};
-ghost use Rattle.trace.specs.Layout.{recordLimit, fileLength, begins, pickMark, markOf, settingsAt, countAt, isWrite, writesIn, traceAt, recordOf};
-ghost use Rattle.trace.specs.Check.{surveyOf, layoutOf, contentOf, refusalIn, checked, decoded, checkOf, traceOf, ReadInto, WritesAgain};
+ghost use Rattle.trace.specs.Layout.{recordLimit, fileLength, begins, pickMark, markOf, settingsAt, countAt, kindAt, zeroAt, isWrite, knownKinds, writesIn, allZero, upTo, traceAt, recordOf};
+ghost use Rattle.trace.specs.Check.{layoutOf, contentOf, refusalIn, checked, decoded, checkOf, traceOf, ReadInto, WritesAgain};
 use refusal::demanded;
 use settings::Settings;
 use word::Order;
@@ -117,7 +117,7 @@ pub fn count_write(kind: u16) -> u32
 // One pass over the first n records.
 fn survey_of(s: &[u8], order: Order, n: usize) -> Survey
     requires { ⌜ (n ≤ recordLimit) × (fileLength n ≤ length (now s)) ⌝ }
-    ensures { λ r. ⌜ r ≡ surveyOf order (now (s .entry)) n ⌝ }
+    ensures { λ r. ⌜ (r .known ≡ knownKinds (upTo (kindAt order (now (s .entry))) n)) × (r .zeros ≡ allZero (upTo (zeroAt order (now (s .entry))) n)) × (r .writes ≡ writesIn (upTo (kindAt order (now (s .entry))) n)) ⌝ }
 {
     let mut known = true;
     let mut zeros = true;
@@ -145,19 +145,17 @@ fn content_of(s: &[u8], order: Order) -> u32
 {
     let n = word::get32(s, 8, order);
     let writes = word::get32(s, 16, order);
-    let zeros = (word::get16(s, 6, order) == 0) & (word::get32(s, 44, order) == 0);
+    let first_zero = word::get16(s, 6, order) == 0;
+    let last_zero = word::get32(s, 44, order) == 0;
     let found = survey_of(s, order, n as usize);
+    let zeros = first_zero & (last_zero & found.zeros);
     let ranges = demanded(
         settings::in_range(settings_at(s, order)),
         refusal::OUT_OF_RANGE,
         0,
     );
     let counted = demanded(writes == found.writes, refusal::WRONG_WRITES, ranges);
-    demanded(
-        zeros & (found.zeros & found.known),
-        refusal::BAD_FIELD,
-        counted,
-    )
+    demanded(zeros & found.known, refusal::BAD_FIELD, counted)
 }
 
 // Refusals 3 to 8, or 0.

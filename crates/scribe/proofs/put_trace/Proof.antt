@@ -9,7 +9,7 @@ returns : tie.Need-returns
 unfolding encode
 returns c =
     let h = c .before .before .before .before .before .before in
-    rw (c .before .before .put-records .ensures, h .put-header .ensures, h .before .before .before .survey-kinds .ensures .0) (simp (sets-append, length-header))
+    rw (c .before .before .put-records .ensures, h .put-header .ensures, h .before .before .before .survey-kinds .ensures .1) (simp (sets-append, length-header))
 
 pub put-trace-spec : {M : Type 1} → statement M
 put-trace-spec =

@@ -1,4 +1,4 @@
-use mathlib.Core.Path.{_≡_, refl, sym}
+use mathlib.Core.Path.{_≡_, refl, sym, ap, _∙_}
 use Prim.Native.Nat.{_≤_, _<_, _-_}
 use native.Mathlib.Omega.{arith}
 use lib.ListN.{length, take}
@@ -37,7 +37,7 @@ returns c =
     let l = now (c .before .before .before .args .kinds) in
     let e : c .before .loop .i ≡ length l = omega arith in
     let t : take (c .before .loop .i) l ≡ l = take-all (c .before .loop .i) l (omega arith) in
-    (rw (c .before .loop .inv .1, c .before .loop .inv .2, t), omega arith)
+    (c .before .loop .inv .1 ∙ ap knownKinds t, c .before .loop .inv .2 ∙ ap writesIn t, omega arith)
 
 pub survey-kinds-spec : {M : Type 1} → statement M
 survey-kinds-spec =

@@ -12,11 +12,13 @@ returns c =
       c .before .before .before .before .demanded .ensures,
       c .before .before .before .before .before .in-range .ensures,
       c .before .before .before .before .before .before .settings-at .ensures,
-      c .before .before .before .before .before .before .before .survey-of .ensures,
-      c .before .before .before .before .before .before .before .before .get323 .ensures,
-      c .before .before .before .before .before .before .before .before .before .get16 .ensures,
-      c .before .before .before .before .before .before .before .before .before .before .get322 .ensures,
-      c .before .before .before .before .before .before .before .before .before .before .before .get32 .ensures,
+      c .before .before .before .before .before .before .before .before .survey-of .ensures .0,
+      c .before .before .before .before .before .before .before .before .survey-of .ensures .1,
+      c .before .before .before .before .before .before .before .before .survey-of .ensures .2,
+      c .before .before .before .before .before .before .before .before .before .get323 .ensures,
+      c .before .before .before .before .before .before .before .before .before .before .get16 .ensures,
+      c .before .before .before .before .before .before .before .before .before .before .before .get322 .ensures,
+      c .before .before .before .before .before .before .before .before .before .before .before .before .get32 .ensures,
     )
 
 pub content-of-spec : {M : Type 1} → statement M

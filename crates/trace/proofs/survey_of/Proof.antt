@@ -4,7 +4,6 @@ use native.Mathlib.Omega.{arith}
 use native.Mathlib.Numerals.{add-one}
 use borrow.Author.Needs.{needs}
 use Rattle.trace.specs.Layout.{kindAt, zeroAt, upTo, knownKinds, allZero, writesIn}
-use Rattle.trace.specs.Check.{surveyOf}
 use Rattle.trace.proofs.Lists.{known-snoc, zero-snoc, writes-snoc}
 use Rattle.trace.proofs.survey_of.Statement.{statement}
 use Rattle.trace.proofs.survey_of.Tie as tie
@@ -33,10 +32,9 @@ loop-again c =
     )
 
 returns : tie.Need-returns Inv-loop μ-loop
-unfolding surveyOf
 returns c =
     let e : c .before .loop .i ≡ c .before .before .before .args .n = omega arith in
-    rw (← e, c .before .loop .inv .1, c .before .loop .inv .2, c .before .loop .inv .3)
+    rw (← e) (c .before .loop .inv .1, c .before .loop .inv .2, c .before .loop .inv .3)
 
 pub survey-of-spec : {M : Type 1} → statement M
 survey-of-spec =
