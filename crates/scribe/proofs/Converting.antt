@@ -26,11 +26,11 @@ use Rattle.scribe.proofs.Laws.{unstored}
 use Rattle.scribe.specs.Write.{convertRefusal, converted, ConvertedTo, ConvertsBack}
 
 -- the header and then the records, in the other order, are the conversion
-pub convert-stores : (s : List ℕ) (h : Header) (out mid out′ : List ℕ) → checkOf s ≡ Accepted h
-    → mid ≡ sets out 0 (headerBytes (other (h .order)) (h .settings) (h .count) (writesIn (traceOf s .kinds)))
-    → out′ ≡ sets mid 48 (recordsTo (other (h .order)) (traceOf s .pages) (traceOf s .kinds) (h .count)) → out′ ≡ sets out 0 (converted s)
+pub convert-stores : (s : List ℕ) (h : Header) (to : Order) (writes : ℕ) (out mid out′ : List ℕ) → checkOf s ≡ Accepted h
+    → to ≡ other (h .order) → writes ≡ writesIn (traceOf s .kinds) → mid ≡ sets out 0 (headerBytes to (h .settings) (h .count) writes)
+    → out′ ≡ sets mid 48 (recordsTo to (traceOf s .pages) (traceOf s .kinds) (h .count)) → out′ ≡ sets out 0 (converted s)
 unfolding converted encode
-convert-stores s h out mid out′ e m d = rw (d, m, accepted s h e .1) (simp (sets-append, length-header))
+convert-stores s h to writes out mid out′ e o w m d = rw (d, m, o, w, accepted s h e .1) (simp (sets-append, length-header))
 
 pub convert-whole : (s : List ℕ) (h : Header) (out out′ : List ℕ) → checkOf s ≡ Accepted h → length s ≤ length out → out′ ≡ sets out 0 (converted s) → ConvertedTo s out 0 out′
 unfolding convertRefusal

@@ -28,9 +28,8 @@ returns-2 c =
     let o = w .before .before in
     let b = o .before .before .before .before in
     let s = now (b .args .bytes) in
-    let head = rw (o .other-order .ensures, w .writes .ensures) at (h .put-header .ensures) in
-    let body = rw (o .other-order .ensures) at (r .convert-records .ensures) in
-    convert-whole s (b .args .header) (now (b .args .out)) _ (b .pre) (omega arith) (convert-stores s (b .args .header) (now (b .args .out)) _ _ (b .pre) head body)
+    let held = convert-stores s (b .args .header) (o .other-order .result) (w .writes .result) (now (b .args .out)) _ _ (b .pre) (o .other-order .ensures) (w .writes .ensures) (h .put-header .ensures) (r .convert-records .ensures) in
+    convert-whole s (b .args .header) (now (b .args .out)) _ (b .pre) (omega arith) held
 
 pub convert-accepted-spec : {M : Type 1} → statement M
 convert-accepted-spec = tie.close
