@@ -1,7 +1,8 @@
 /* Hitchyawl for a C transport: check a trace of edition 1, and put it into the other byte order.
  *
  * Both calls are exported by the archive of the crate `host`. They keep no state, allocate nothing,
- * and may run in several threads at once as long as no thread's `out` is a buffer of another's call.
+ * and may run in several threads at once. While a call runs, nothing else may write to its buffers,
+ * neither another thread nor another process that maps the same memory, and nothing may read `out`.
  *
  * A buffer is a pointer and its length in bytes. The memory has to be there in full, may stand at
  * any address (nothing is asked of its alignment), and the two buffers of a call must not overlap.

@@ -7,10 +7,15 @@ quietly() {
     said=$("$@" 2>&1) || { printf '%s\n' "$said" >&2; echo "$0: failed: $*" >&2; exit 1; }
 }
 
-# Proves the crate host, and links tests/NAME.c with its archive to target/native/NAME.
+# Proves the crate host, and links tests/NAME.c with its archive to target/native/NAME: the archive that ships where this machine
+# can run it, else the same proved module built for this machine's processor.
 build_over_host() { # NAME
+    local archive=target/staticlib/libhost.a
     mkdir -p target/native
-    quietly rt check host
-    quietly tools/native lib host target/native/libhost.a
-    quietly gcc -std=c99 -O3 -Wall -Wextra -Werror -Iinclude "tests/$1.c" target/native/libhost.a -o "target/native/$1"
+    quietly rt staticlib host
+    if [ "$(uname -m)" != x86_64 ]; then
+        archive=target/native/libhost.a
+        quietly tools/native lib host "$archive"
+    fi
+    quietly gcc -std=c99 -O3 -Wall -Wextra -Iinclude "tests/$1.c" "$archive" -o "target/native/$1"
 }

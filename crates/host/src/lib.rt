@@ -1,13 +1,13 @@
 // What the C transport calls: numbers and bytes in, 0 or a refusal out. include/hitchyawl.h is the same for C.
 ghost use mathlib.Core.Path.{_≡_};
-ghost use Rattle.trace.specs.Check.{refusalOf};
+ghost use Rattle.trace.specs.Check.{checkOf, numberOfAnswer};
 ghost use Rattle.scribe.specs.Write.{ConvertedTo, ConvertsBack};
 use trace::Checked;
 
 // 0, or the trace's refusal.
 #[no_mangle]
 pub extern "C" fn hitchyawl_check(bytes: &[u8]) -> u32
-    ensures { λ r. ⌜ r ≡ refusalOf (now (bytes .entry)) ⌝ }
+    ensures { λ r. ⌜ r ≡ numberOfAnswer (checkOf (now (bytes .entry))) ⌝ }
 {
     let c = trace::check(bytes);
     match c {

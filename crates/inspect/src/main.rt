@@ -4,7 +4,7 @@ use lines::say_number;
 use lines::say_order;
 use settings::Settings;
 use trace::Checked;
-use trace::Header;
+use trace::Summary;
 
 fn say_rule(rule: u16) {
     match rule {
@@ -34,14 +34,14 @@ fn say_settings(s: Settings) {
     say_line(b"seed", s.seed as u64);
 }
 
-fn say_accepted(header: Header, writes: u32) {
-    let order = header.order;
+fn say_accepted(summary: Summary, writes: u32) {
+    let order = summary.order;
     say(b"order");
     say_order(order);
     say(b"\n");
-    let settings = header.settings;
+    let settings = summary.settings;
     say_settings(settings);
-    say_line(b"records", header.count as u64);
+    say_line(b"records", summary.count as u64);
     say_line(b"writes", writes as u64);
 }
 
@@ -49,7 +49,7 @@ fn inspect_trace(bytes: &[u8]) {
     let c = trace::check(bytes);
     match c {
         Checked::Refused(r) => say_line(b"trace refused", r as u64),
-        Checked::Accepted(header) => say_accepted(header, trace::writes(bytes, header)),
+        Checked::Accepted(summary) => say_accepted(summary, trace::writes(bytes, summary)),
     }
 }
 

@@ -1,6 +1,6 @@
 -- Laws of demands: what is known where nothing was refused.
 use mathlib.Core.Path.{_≡_, refl}
-use mathlib.Core.Bool.{Bool, true, false, _&&_}
+use mathlib.Core.Bool.{Bool, true, false}
 use Prim.Native.Nat.{ℕ, zero, suc}
 use native.Mathlib.Omega.{arith}
 use Rattle.refusal.specs.Refusals.{demand, orElse}
@@ -9,11 +9,6 @@ use Rattle.refusal.specs.Refusals.{demand, orElse}
 pub met : (b : Bool) (k after : ℕ) → demand b (suc k) after ≡ 0 → (b ≡ true) × (after ≡ 0)
 met true k after h = (refl, h)
 met false k after h = absurd (omega arith)
-
--- both tests of a joined one held
-pub both : (a b : Bool) → (a && b) ≡ true → (a ≡ true) × (b ≡ true)
-both true b h = (refl, h)
-both false b h = absurd (let z : _≡_ {A = ℕ} 0 1 = cc in omega arith)
 
 -- a first refusal is the answer
 pub or-first : (a b : ℕ) → (a ≡ 0 → ⊥) → a ≡ orElse a b

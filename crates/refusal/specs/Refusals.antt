@@ -1,4 +1,4 @@
--- Numbered refusals: 01's table, and the order in which a call looks for them. 0 stands for none.
+-- Numbered refusals: the table, and the order in which a call looks for them. 0 stands for none.
 use Prim.Native.Nat.{ℕ, zero, suc}
 use mathlib.Core.Bool.{Bool, true, false}
 

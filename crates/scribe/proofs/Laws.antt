@@ -1,23 +1,25 @@
 -- Laws of the writer and the converter.
-use mathlib.Core.Path.{_≡_, refl}
-use mathlib.Core.List.{List}
-use mathlib.Core.Bool.{true, _&&_}
-use Prim.Native.Nat.{ℕ, zero, suc, _+_, _*_, _≤_, _<_}
+use mathlib.Core.Path.{_≡_}
+use mathlib.Core.List.{List, _++_}
+use mathlib.Core.Bool.{_&&_, and-eq-true-iff}
+use Prim.Native.Nat.{ℕ, _+_, _*_, _≤_, _<_}
 use native.Mathlib.Numerals.{add-one}
-use lib.ListN.{length, getD, take}
+use lib.ListN.{length, getD, take, length-append}
 use lib.Seq.{sets, take-suc}
 use lib.Dec.{eqb, leb}
-use borrow.Author.Tests.{leb-true, eqb-true}
+use borrow.Author.Tests.{leb-true, eqb-true, le-leb, eq-eqb}
 use Rattle.word.specs.declared.Order.{Order}
-use Rattle.word.proofs.Laws.{sets-append}
+use Rattle.word.specs.Number.{bytesOf}
+use Rattle.word.proofs.Laws.{sets-append, length-bytes}
 use Rattle.refusal.specs.Refusals.{demand}
-use Rattle.refusal.proofs.Laws.{met, both}
+use Rattle.refusal.proofs.Laws.{met}
 use Rattle.settings.specs.Settings.{inRange}
-use Rattle.trace.specs.Layout.{Trace, recordLimit, fileLength, isWrite, knownKind, knownKinds, writesIn}
-use Rattle.trace.specs.Encode.{recordBytes, recordsTo}
+use Rattle.settings.specs.declared.Settings.{Settings}
+use Rattle.trace.specs.Layout.{Trace, edition, recordLimit, headerLength, fileLength, isWrite, knownKind, knownKinds, writesIn}
+use Rattle.trace.specs.Encode.{markBytes, headerBytes, recordBytes, recordsTo, Proper}
 use Rattle.trace.proofs.Lists.{writes-snoc, known-snoc}
-use Rattle.trace.proofs.Sizes.{length-records}
-use Rattle.scribe.specs.Write.{writeRefusal, stored}
+use Rattle.trace.proofs.Sizes.{length-mark, length-records}
+use Rattle.scribe.specs.Write.{writeRefusal}
 
 -- a turn of the pass over the kinds
 pub writes-more : (l : List ℕ) (i : ℕ) → i < length l → writesIn (take (i + 1) l) ≡ writesIn (take i l) + isWrite (getD l i 0)
@@ -26,23 +28,25 @@ writes-more l i h = rw (add-one, take-suc l i 0 h) (writes-snoc (take i l) (getD
 pub known-more : (l : List ℕ) (i : ℕ) → i < length l → knownKinds (take (i + 1) l) ≡ (knownKinds (take i l) && knownKind (getD l i 0))
 known-more l i h = rw (add-one, take-suc l i 0 h) (known-snoc (take i l) (getD l i 0))
 
+-- the header in three runs
+pub header-stores : (o : Order) (t : Settings) (n w : ℕ) (out a b c : List ℕ)
+    → a ≡ sets out 0 (markBytes o ++ bytesOf o 2 edition ++ bytesOf o 2 0 ++ bytesOf o 4 n ++ bytesOf o 4 headerLength ++ bytesOf o 4 w ++ bytesOf o 4 (fileLength n))
+    → b ≡ sets a 24 (bytesOf o 2 (t .rule) ++ bytesOf o 2 (t .frames) ++ bytesOf o 2 (t .batch) ++ bytesOf o 2 (t .cap) ++ bytesOf o 2 (t .sample) ++ bytesOf o 2 (t .weight))
+    → c ≡ sets b 36 (bytesOf o 4 (t .epoch) ++ bytesOf o 4 (t .seed) ++ bytesOf o 4 0) → c ≡ sets out 0 (headerBytes o t n w)
+unfolding headerBytes
+header-stores o t n w out a b c x y z = rw (z, y, x) (simp (sets-append, length-append, length-bytes, length-mark))
+
 -- a turn of the loop that writes the records
 pub records-more : (o : Order) (pages kinds out₀ out out′ : List ℕ) (i : ℕ) → out ≡ sets out₀ 48 (recordsTo o pages kinds i)
     → out′ ≡ sets out (48 + 8 * i) (recordBytes o (getD pages i 0) (getD kinds i 0)) → out′ ≡ sets out₀ 48 (recordsTo o pages kinds (i + 1))
 records-more o pages kinds out₀ out out′ i e e′ =
     rw (e′, e, add-one, sets-append, length-records o pages kinds i)
 
--- what a writer that refuses nothing has seen
-pub record Granted (t : Trace) (room : ℕ) : Type 0 where
-  pub same : length (t .pages) ≡ length (t .kinds)
-  pub few : length (t .pages) ≤ recordLimit
-  pub known : knownKinds (t .kinds) ≡ true
-  pub range : inRange (t .settings) ≡ true
-  pub long : fileLength (length (t .pages)) ≤ room
-
-pub granted : (t : Trace) (room : ℕ) → writeRefusal t room ≡ 0 → Granted t room
+-- a writer that refuses nothing has room for a trace that the layout can hold, if its numbers fit their widths
+pub granted : (t : Trace) (room : ℕ) → t .settings .seed < 4294967296 → ((i : ℕ) → getD (t .pages) i 0 < 4294967296) → writeRefusal t room ≡ 0
+    → Proper t × (fileLength (length (t .pages)) ≤ room)
 unfolding writeRefusal
-granted t room h =
+granted t room seed page h =
     let p = length (t .pages) in
     let k = length (t .kinds) in
     let size = demand (leb (fileLength p) room) 13 0 in
@@ -54,15 +58,21 @@ granted t room h =
     let h6 = met (knownKinds (t .kinds)) 5 range (h5 .1) in
     let h8 = met (inRange (t .settings)) 7 size (h6 .1) in
     let h13 = met (leb (fileLength p) room) 12 0 (h8 .1) in
-    record {
-      same = eqb-true p k (h5 .0);
-      few = leb-true p recordLimit (both (leb p recordLimit) (leb k recordLimit) (h4 .0) .0);
-      known = h6 .0;
-      range = h8 .0;
-      long = leb-true (fileLength p) room (h13 .0);
-    }
+    let few = leb-true p recordLimit (and-eq-true-iff (leb p recordLimit) (leb k recordLimit) .0 (h4 .0) .0) in (
+      record { same = eqb-true p k (h5 .0); few = few; known = h6 .0; range = h8 .0; seed = seed; page = page },
+      leb-true (fileLength p) room (h13 .0),
+    )
 
--- on a refusal nothing is stored
-pub unstored : (r : ℕ) (lent written : List ℕ) → (r ≡ 0 → ⊥) → lent ≡ stored r lent written
-unstored zero lent written h = absurd (h refl)
-unstored (suc r) lent written h = refl
+-- and refuses no such trace
+pub grants : (t : Trace) (room : ℕ) → Proper t → fileLength (length (t .pages)) ≤ room → writeRefusal t room ≡ 0
+unfolding writeRefusal
+grants t room p fits =
+    let few : length (t .kinds) ≤ recordLimit = rw (← p .same) (p .few) in
+    rw (
+      le-leb (length (t .pages)) recordLimit (p .few),
+      le-leb (length (t .kinds)) recordLimit few,
+      eq-eqb (length (t .pages)) (length (t .kinds)) (p .same),
+      p .known,
+      p .range,
+      le-leb (fileLength (length (t .pages))) room fits,
+    )

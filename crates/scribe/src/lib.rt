@@ -1,21 +1,22 @@
 // The writer and the converter of traces.
 ghost use mathlib.Core.Path.{_≡_};
 ghost use Prim.Native.Nat.{_+_, _≤_};
-ghost use mathlib.Core.List.{[], _∷_};
+ghost use mathlib.Core.List.{[], _∷_, _++_};
 ghost use lib.ListN.{length, getD};
 ghost use lib.Seq.{sets};
-ghost use Rattle.trace.specs.Layout.{recordLimit, fileLength, knownKinds, writesIn};
-ghost use Rattle.trace.specs.Encode.{markBytes, countBytes, shortBytes, longBytes, headerBytes, recordBytes, recordsTo, encode, other};
+ghost use Rattle.word.specs.Number.{bytesOf};
+ghost use Rattle.trace.specs.Layout.{edition, recordLimit, headerLength, fileLength, knownKinds, writesIn, traceFrom};
+ghost use Rattle.trace.specs.Encode.{markBytes, headerBytes, recordBytes, recordsTo, encode, other};
 ghost use Rattle.trace.specs.Check.{checkOf, traceOf};
-ghost use Rattle.scribe.specs.Write.{traceFrom, writeRefusal, WrittenTo, ReadsBack, ConvertedTo, ConvertsBack};
+ghost use Rattle.scribe.specs.Write.{writeRefusal, WrittenTo, ReadsBack, ConvertedTo, ConvertsBack};
 use refusal::demanded;
 use settings::Settings;
 use trace::Checked;
-use trace::Header;
+use trace::Summary;
 use word::Order;
 
 // What one pass over kinds finds.
-pub struct Kinds {
+struct Kinds {
     pub known: bool,
     pub writes: usize,
 }
@@ -62,10 +63,10 @@ fn put_mark(out: &mut [u8], order: Order)
 // The first 24 bytes of the header.
 fn put_counts(out: &mut [u8], order: Order, n: u32, writes: u32)
     requires { ⌜ (48 ≤ length (now out)) × (n ≤ recordLimit) ⌝ }
-    ensures { λ _. ⌜ now (out .exit) ≡ sets (now (out .entry)) 0 (countBytes order n writes) ⌝ }
+    ensures { λ _. ⌜ now (out .exit) ≡ sets (now (out .entry)) 0 (markBytes order ++ bytesOf order 2 edition ++ bytesOf order 2 0 ++ bytesOf order 4 n ++ bytesOf order 4 headerLength ++ bytesOf order 4 writes ++ bytesOf order 4 (fileLength n)) ⌝ }
 {
     put_mark(out, order);
-    word::put16(out, 4, order, 1);
+    word::put16(out, 4, order, trace::EDITION);
     word::put16(out, 6, order, 0);
     word::put32(out, 8, order, n);
     word::put32(out, 12, order, 48);
@@ -73,10 +74,10 @@ fn put_counts(out: &mut [u8], order: Order, n: u32, writes: u32)
     word::put32(out, 20, order, 48 + 8 * n);
 }
 
-// The six settings of 2 bytes.
+// The six settings of 2 bytes, from 24.
 fn put_shorts(out: &mut [u8], order: Order, settings: Settings)
     requires { ⌜ 48 ≤ length (now out) ⌝ }
-    ensures { λ _. ⌜ now (out .exit) ≡ sets (now (out .entry)) 24 (shortBytes order settings) ⌝ }
+    ensures { λ _. ⌜ now (out .exit) ≡ sets (now (out .entry)) 24 (bytesOf order 2 (settings .rule) ++ bytesOf order 2 (settings .frames) ++ bytesOf order 2 (settings .batch) ++ bytesOf order 2 (settings .cap) ++ bytesOf order 2 (settings .sample) ++ bytesOf order 2 (settings .weight)) ⌝ }
 {
     word::put16(out, 24, order, settings.rule);
     word::put16(out, 26, order, settings.frames);
@@ -86,10 +87,10 @@ fn put_shorts(out: &mut [u8], order: Order, settings: Settings)
     word::put16(out, 34, order, settings.weight);
 }
 
-// The two of 4 bytes, and the zero.
+// The two of 4 bytes, and the zero, from 36.
 fn put_longs(out: &mut [u8], order: Order, settings: Settings)
     requires { ⌜ 48 ≤ length (now out) ⌝ }
-    ensures { λ _. ⌜ now (out .exit) ≡ sets (now (out .entry)) 36 (longBytes order settings) ⌝ }
+    ensures { λ _. ⌜ now (out .exit) ≡ sets (now (out .entry)) 36 (bytesOf order 4 (settings .epoch) ++ bytesOf order 4 (settings .seed) ++ bytesOf order 4 0) ⌝ }
 {
     word::put32(out, 36, order, settings.epoch);
     word::put32(out, 40, order, settings.seed);
@@ -141,7 +142,7 @@ fn put_trace(settings: Settings, order: Order, pages: &[u32], kinds: &[u16], out
 fn write_refusal(settings: Settings, order: Order, pages: &[u32], kinds: &[u16], room: usize) -> u32
     ensures { λ r. ⌜ r ≡ writeRefusal (traceFrom settings order (now (pages .entry)) (now (kinds .entry))) room ⌝ }
 {
-    if (pages.len() <= 8000) & (kinds.len() <= 8000) {
+    if (pages.len() <= trace::RECORD_LIMIT) & (kinds.len() <= trace::RECORD_LIMIT) {
         let found = survey_kinds(kinds);
         let fits = demanded(48 + 8 * pages.len() <= room, refusal::NO_ROOM, 0);
         let ranges = demanded(settings::in_range(settings), refusal::OUT_OF_RANGE, fits);
@@ -175,32 +176,32 @@ fn other_order(order: Order) -> Order
 }
 
 // The records of an accepted trace in an order, at their places in `out`.
-fn convert_records(bytes: &[u8], header: Header, order: Order, out: &mut [u8])
-    requires { ⌜ (checkOf (now bytes) ≡ Checked.Accepted header) × (length (now bytes) ≤ length (now out)) ⌝ }
-    ensures { λ _. ⌜ now (out .exit) ≡ sets (now (out .entry)) 48 (recordsTo order (traceOf (now (bytes .entry)) .pages) (traceOf (now (bytes .entry)) .kinds) (header .count)) ⌝ }
+fn convert_records(bytes: &[u8], summary: Summary, order: Order, out: &mut [u8])
+    requires { ⌜ (checkOf (now bytes) ≡ Checked.Accepted summary) × (length (now bytes) ≤ length (now out)) ⌝ }
+    ensures { λ _. ⌜ now (out .exit) ≡ sets (now (out .entry)) 48 (recordsTo order (traceOf (now (bytes .entry)) .pages) (traceOf (now (bytes .entry)) .kinds) (summary .count)) ⌝ }
 {
-    let n = header.count as usize;
+    let n = summary.count as usize;
     let mut i: usize = 0;
     while i < n {
-        let record = trace::record_at(bytes, header, i);
+        let record = trace::record_at(bytes, summary, i);
         put_record(out, 48 + 8 * i, order, record.page, record.kind);
         i += 1;
     }
 }
 
-fn convert_accepted(bytes: &[u8], header: Header, out: &mut [u8]) -> u32
-    requires { ⌜ checkOf (now bytes) ≡ Checked.Accepted header ⌝ }
+fn convert_accepted(bytes: &[u8], summary: Summary, out: &mut [u8]) -> u32
+    requires { ⌜ checkOf (now bytes) ≡ Checked.Accepted summary ⌝ }
     ensures { λ r. ⌜ ConvertedTo (now (bytes .entry)) (now (out .entry)) r (now (out .exit)) ⌝ }
 {
     if out.len() < bytes.len() {
         return refusal::NO_ROOM;
     }
-    let order = header.order;
+    let order = summary.order;
     let to = other_order(order);
-    let settings = header.settings;
-    let writes = trace::writes(bytes, header);
-    put_header(out, to, settings, header.count, writes);
-    convert_records(bytes, header, to, out);
+    let settings = summary.settings;
+    let writes = trace::writes(bytes, summary);
+    put_header(out, to, settings, summary.count, writes);
+    convert_records(bytes, summary, to, out);
     0
 }
 
@@ -212,6 +213,6 @@ pub fn convert(bytes: &[u8], out: &mut [u8]) -> u32
     let c = trace::check(bytes);
     match c {
         Checked::Refused(r) => r,
-        Checked::Accepted(header) => convert_accepted(bytes, header, out),
+        Checked::Accepted(summary) => convert_accepted(bytes, summary, out),
     }
 }

@@ -1,10 +1,9 @@
 -- Laws of the settings.
 use mathlib.Core.Path.{_≡_, refl}
-use mathlib.Core.Bool.{true, _&&_}
+use mathlib.Core.Bool.{true, _&&_, and-eq-true-iff}
 use Prim.Native.Nat.{ℕ, _≤_}
 use lib.Dec.{eqb, leb}
 use borrow.Author.Tests.{eq-eqb, eqb-true, leb-true}
-use Rattle.refusal.proofs.Laws.{both}
 use Rattle.settings.specs.Settings.{between, inRange, sameSettings}
 use Rattle.settings.specs.declared.Settings.{Settings}
 
@@ -19,13 +18,13 @@ same-equal a b h =
     let s4 = eqb (a .cap) (b .cap) && s5 in
     let s3 = eqb (a .batch) (b .batch) && s4 in
     let s2 = eqb (a .frames) (b .frames) && s3 in
-    let h1 = both (eqb (a .rule) (b .rule)) s2 h in
-    let h2 = both (eqb (a .frames) (b .frames)) s3 (h1 .1) in
-    let h3 = both (eqb (a .batch) (b .batch)) s4 (h2 .1) in
-    let h4 = both (eqb (a .cap) (b .cap)) s5 (h3 .1) in
-    let h5 = both (eqb (a .sample) (b .sample)) s6 (h4 .1) in
-    let h6 = both (eqb (a .weight) (b .weight)) s7 (h5 .1) in
-    let h7 = both (eqb (a .epoch) (b .epoch)) s8 (h6 .1) in
+    let h1 = and-eq-true-iff (eqb (a .rule) (b .rule)) s2 .0 h in
+    let h2 = and-eq-true-iff (eqb (a .frames) (b .frames)) s3 .0 (h1 .1) in
+    let h3 = and-eq-true-iff (eqb (a .batch) (b .batch)) s4 .0 (h2 .1) in
+    let h4 = and-eq-true-iff (eqb (a .cap) (b .cap)) s5 .0 (h3 .1) in
+    let h5 = and-eq-true-iff (eqb (a .sample) (b .sample)) s6 .0 (h4 .1) in
+    let h6 = and-eq-true-iff (eqb (a .weight) (b .weight)) s7 .0 (h5 .1) in
+    let h7 = and-eq-true-iff (eqb (a .epoch) (b .epoch)) s8 .0 (h6 .1) in
     rw (
       eqb-true (a .rule) (b .rule) (h1 .0),
       eqb-true (a .frames) (b .frames) (h2 .0),
@@ -62,7 +61,7 @@ pub record Ranges (s : Settings) : Type 0 where
   pub epoch : (1 ≤ s .epoch) × (s .epoch ≤ 50000)
 
 bounds : (least x most : ℕ) → between least x most ≡ true → (least ≤ x) × (x ≤ most)
-bounds least x most h = let b = both (leb least x) (leb x most) h in (leb-true least x (b .0), leb-true x most (b .1))
+bounds least x most h = let b = and-eq-true-iff (leb least x) (leb x most) .0 h in (leb-true least x (b .0), leb-true x most (b .1))
 
 -- what the test of the ranges tells
 pub ranges : (s : Settings) → inRange s ≡ true → Ranges s
@@ -74,12 +73,12 @@ ranges s h =
     let r4 = between 1 (s .cap) 7 && r5 in
     let r3 = between 1 (s .batch) 16 && r4 in
     let r2 = between 1 (s .frames) 128 && r3 in
-    let h1 = both (between 0 (s .rule) 2) r2 h in
-    let h2 = both (between 1 (s .frames) 128) r3 (h1 .1) in
-    let h3 = both (between 1 (s .batch) 16) r4 (h2 .1) in
-    let h4 = both (between 1 (s .cap) 7) r5 (h3 .1) in
-    let h5 = both (between 1 (s .sample) 16) r6 (h4 .1) in
-    let h6 = both (between 0 (s .weight) 16) r7 (h5 .1) in
+    let h1 = and-eq-true-iff (between 0 (s .rule) 2) r2 .0 h in
+    let h2 = and-eq-true-iff (between 1 (s .frames) 128) r3 .0 (h1 .1) in
+    let h3 = and-eq-true-iff (between 1 (s .batch) 16) r4 .0 (h2 .1) in
+    let h4 = and-eq-true-iff (between 1 (s .cap) 7) r5 .0 (h3 .1) in
+    let h5 = and-eq-true-iff (between 1 (s .sample) 16) r6 .0 (h4 .1) in
+    let h6 = and-eq-true-iff (between 0 (s .weight) 16) r7 .0 (h5 .1) in
     record {
       rule = bounds 0 (s .rule) 2 (h1 .0) .1;
       frames = bounds 1 (s .frames) 128 (h2 .0);

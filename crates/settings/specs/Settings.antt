@@ -1,4 +1,4 @@
--- The settings of a trace and of a pool: the header's last fields of 01's table.
+-- The settings of a trace and of a pool: places 24 to 43 of a trace's header.
 use Prim.Native.Nat.{ℕ}
 use mathlib.Core.Bool.{Bool, _&&_}
 use lib.Dec.{eqb, leb}

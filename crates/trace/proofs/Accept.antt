@@ -1,26 +1,25 @@
 -- What is known of a trace that the checker accepts: it met each demand, and its parts are those of the layout.
 use mathlib.Core.Path.{_≡_, refl, ap, _∙_}
 use mathlib.Core.List.{List}
-use mathlib.Core.Bool.{true, _&&_}
-use Prim.Native.Nat.{ℕ, zero, suc, _+_, _≤_, _<_}
+use mathlib.Core.Bool.{true, _&&_, and-eq-true-iff}
+use Prim.Native.Nat.{ℕ, _+_, _≤_, _<_}
 use native.Mathlib.Omega.{arith}
 use lib.ListN.{length}
 use lib.Dec.{eqb, leb}
 use borrow.Author.Tests.{eqb-true}
 use Rattle.word.specs.declared.Order.{Order}
 use Rattle.refusal.specs.Refusals.{demand}
-use Rattle.refusal.proofs.Laws.{met, both, neither}
+use Rattle.refusal.proofs.Laws.{met, neither}
 use Rattle.settings.specs.Settings.{inRange}
-use Rattle.trace.specs.Layout.{Trace, headerLength, fileLength, markOf, firstZeroAt, lastZeroAt, writesAt, countAt, settingsAt, pageAt, kindAt, kindsAt, zerosAt, knownKinds, allZero, writesIn, traceAt, recordOf}
-use Rattle.trace.specs.Check.{zerosRight, layoutOf, contentOf, refusalIn, refusalMarked, refusalOf, traceOf, Decoded, decoded, decode, headerOf, checked, checkOf, numberOfAnswer}
-use Rattle.trace.specs.Check.Decoded.{Whole, Faulty}
+use Rattle.trace.specs.Layout.{headerLength, fileLength, markOf, firstZeroAt, lastZeroAt, writesAt, countAt, settingsAt, pageAt, kindAt, kindsAt, zerosAt, knownKinds, allZero, writesIn, traceAt, recordOf}
+use Rattle.trace.specs.Check.{zerosRight, layoutRefusal, contentRefusal, refusalIn, refusalMarked, refusalOf, traceOf, decode, summaryOf, checkOf, numberOfAnswer}
 use Rattle.trace.specs.declared.Mark.{Mark}
 use Rattle.trace.specs.declared.Mark.the-variants.{Known, Unknown}
-use Rattle.trace.specs.declared.Header.{Header}
+use Rattle.trace.specs.declared.Summary.{Summary}
 use Rattle.trace.specs.declared.Record.{Record}
 use Rattle.trace.specs.declared.Checked.the-variants.{Refused, Accepted}
 use Rattle.trace.proofs.Lists.{length-upTo, upTo-at}
-use Rattle.trace.proofs.Laws.{LaidOut, laid-out}
+use Rattle.trace.proofs.Laws.{LaidOut, laid-out, accepts, refuses, number-is}
 
 -- what refusals 6 to 8 demand
 pub record Filled (o : Order) (s : List ℕ) : Type 0 where
@@ -31,8 +30,8 @@ pub record Filled (o : Order) (s : List ℕ) : Type 0 where
   pub writes : writesAt o s ≡ writesIn (kindsAt o s)
   pub range : inRange (settingsAt o s) ≡ true
 
-filled : (o : Order) (s : List ℕ) → contentOf o s ≡ 0 → Filled o s
-unfolding contentOf
+filled : (o : Order) (s : List ℕ) → contentRefusal o s ≡ 0 → Filled o s
+unfolding contentRefusal
 filled o s h =
     let z1 = eqb (firstZeroAt o s) 0 in
     let z2 = eqb (lastZeroAt o s) 0 in
@@ -44,9 +43,9 @@ filled o s h =
     let h6 = met (zerosRight o s && ks) 5 (demand t7 7 (demand t8 8 0)) h in
     let h7 = met t7 6 (demand t8 8 0) (h6 .1) in
     let h8 = met t8 7 0 (h7 .1) in
-    let b = both (zerosRight o s) ks (h6 .0) in
-    let z = both z1 (z2 && zs) (b .0) in
-    let y = both z2 zs (z .1) in
+    let b = and-eq-true-iff (zerosRight o s) ks .0 (h6 .0) in
+    let z = and-eq-true-iff z1 (z2 && zs) .0 (b .0) in
+    let y = and-eq-true-iff z2 zs .0 (z .1) in
     record {
       zero₁ = eqb-true (firstZeroAt o s) 0 (z .0);
       zero₂ = eqb-true (lastZeroAt o s) 0 (y .0);
@@ -66,7 +65,7 @@ by-mark : (m : Mark) (s : List ℕ) → markOf s ≡ m → refusalMarked m s ≡
 unfolding refusalIn
 by-mark Unknown s e h = absurd (omega arith)
 by-mark (Known o) s e h =
-    let b = neither (layoutOf o s) (contentOf o s) h in
+    let b = neither (layoutRefusal o s) (contentRefusal o s) h in
     (o, record { mark = e; laid = laid-out o s (b .0); fill = filled o s (b .1) })
 
 pub passed : (s : List ℕ) → refusalOf s ≡ 0 → (o : Order) × Passed o s
@@ -78,66 +77,37 @@ pub trace-is : (o : Order) (s : List ℕ) → markOf s ≡ Known o → traceOf s
 unfolding traceOf
 trace-is o s e = rw e
 
--- the enum's answers taken back to what was decoded
-pub whole-of : (d : Decoded) (h : Header) → checked d ≡ Accepted h → (t : Trace) × (d ≡ Whole t) × (h ≡ headerOf t)
-whole-of (Whole t) h e = (t, refl, cc)
-whole-of (Faulty r) h e = absurd (let z : _≡_ {A = ℕ} 0 1 = cc in omega arith)
-
-pub faulty-of : (d : Decoded) (r : ℕ) → checked d ≡ Refused r → d ≡ Faulty r
-faulty-of (Whole t) r e = absurd (let z : _≡_ {A = ℕ} 0 1 = cc in omega arith)
-faulty-of (Faulty q) r e = cc
-
-pub decoded-whole : (r : ℕ) (t u : Trace) → decoded r t ≡ Whole u → (r ≡ 0) × (t ≡ u)
-decoded-whole zero t u e = (refl, cc)
-decoded-whole (suc r) t u e = absurd (let z : _≡_ {A = ℕ} 0 1 = cc in omega arith)
-
-decoded-faulty : (q : ℕ) (t : Trace) (r : ℕ) → decoded q t ≡ Faulty r → (q ≡ r) × (r ≡ 0 → ⊥)
-decoded-faulty zero t r e = absurd (let z : _≡_ {A = ℕ} 0 1 = cc in omega arith)
-decoded-faulty (suc q) t r e = let same : suc q ≡ r = cc in (same, λ z. omega arith)
+-- ---- by the checker's answer
 
 pub refused-is : (s : List ℕ) (r : ℕ) → checkOf s ≡ Refused r → (refusalOf s ≡ r) × (r ≡ 0 → ⊥)
 unfolding checkOf decode
-refused-is s r e = decoded-faulty (refusalOf s) (traceOf s) r (faulty-of (decode s) r e)
-
--- the number of the checker's answer is the trace's refusal
-number-decoded : (r : ℕ) (t : Trace) → numberOfAnswer (checked (decoded r t)) ≡ r
-number-decoded zero t = refl
-number-decoded (suc r) t = refl
+refused-is s r e = refuses (refusalOf s) (traceOf s) r e
 
 pub number-checked : (s : List ℕ) → numberOfAnswer (checkOf s) ≡ refusalOf s
 unfolding checkOf decode
-number-checked s = number-decoded (refusalOf s) (traceOf s)
+number-checked s = number-is (refusalOf s) (traceOf s)
 
--- ---- by the header that the checker tells
-
-pub accepted : (s : List ℕ) (h : Header) → checkOf s ≡ Accepted h → (refusalOf s ≡ 0) × (h ≡ headerOf (traceOf s))
+pub accepted : (s : List ℕ) (h : Summary) → checkOf s ≡ Accepted h → (refusalOf s ≡ 0) × (h ≡ summaryOf (traceOf s))
 unfolding checkOf decode
-accepted s h e =
-    let w = whole-of (decode s) h e in
-    let d = decoded-whole (refusalOf s) (traceOf s) (w .0) (w .1) in
-    (d .0, rw (d .1) (w .2))
+accepted s h e = accepts (refusalOf s) (traceOf s) h e
 
-pub accepted-decodes : (s : List ℕ) (h : Header) → checkOf s ≡ Accepted h → decode s ≡ Whole (traceOf s)
-unfolding decode
-accepted-decodes s h e = rw (accepted s h e .0)
-
-pub accepted-passed : (s : List ℕ) (h : Header) → checkOf s ≡ Accepted h → Passed (h .order) s × (h .count ≡ countAt (h .order) s)
+pub accepted-passed : (s : List ℕ) (h : Summary) → checkOf s ≡ Accepted h → Passed (h .order) s × (h .count ≡ countAt (h .order) s)
 unfolding traceAt
 accepted-passed s h e =
     let a = accepted s h e in
     let p = passed s (a .0) in
-    let t : h ≡ headerOf (traceAt (p .0) s) = a .1 ∙ ap headerOf (trace-is (p .0) s (p .1 .mark)) in
+    let t : h ≡ summaryOf (traceAt (p .0) s) = a .1 ∙ ap summaryOf (trace-is (p .0) s (p .1 .mark)) in
     rw t (p .1, length-upTo (pageAt (p .0) s) (countAt (p .0) s))
 
 -- record i lies within the bytes
-pub record-within : (s : List ℕ) (h : Header) (i : ℕ) → checkOf s ≡ Accepted h → i < h .count → fileLength i + 8 ≤ length s
+pub record-within : (s : List ℕ) (h : Summary) (i : ℕ) → checkOf s ≡ Accepted h → i < h .count → fileLength i + 8 ≤ length s
 record-within s h i e l =
     let a = accepted-passed s h e in
     let long = a .0 .laid .long in
     let n = a .1 in
     omega arith
 
-pub record-is : (s : List ℕ) (h : Header) (i : ℕ) → checkOf s ≡ Accepted h → i < h .count
+pub record-is : (s : List ℕ) (h : Summary) (i : ℕ) → checkOf s ≡ Accepted h → i < h .count
     → _≡_ {A = Record} (record { page = pageAt (h .order) s i; kind = kindAt (h .order) s i }) (recordOf (traceOf s) i)
 unfolding traceAt
 record-is s h i e l =
@@ -150,16 +120,16 @@ record-is s h i e l =
       upTo-at (kindAt o s) (countAt o s) i (omega arith),
     )
 
-pub writes-are : (s : List ℕ) (h : Header) → checkOf s ≡ Accepted h → writesAt (h .order) s ≡ writesIn (traceOf s .kinds)
+pub writes-are : (s : List ℕ) (h : Summary) → checkOf s ≡ Accepted h → writesAt (h .order) s ≡ writesIn (traceOf s .kinds)
 unfolding traceAt
 writes-are s h e =
     let a = accepted-passed s h e in
     rw (trace-is (h .order) s (a .0 .mark)) (a .0 .fill .writes)
 
-pub header-within : (s : List ℕ) (h : Header) → checkOf s ≡ Accepted h → headerLength ≤ length s
+pub header-within : (s : List ℕ) (h : Summary) → checkOf s ≡ Accepted h → headerLength ≤ length s
 header-within s h e = let long = accepted-passed s h e .0 .laid .long in omega arith
 
-pub counts-are : (s : List ℕ) (h : Header) → checkOf s ≡ Accepted h → (length (traceOf s .pages) ≡ h .count) × (length (traceOf s .kinds) ≡ h .count)
+pub counts-are : (s : List ℕ) (h : Summary) → checkOf s ≡ Accepted h → (length (traceOf s .pages) ≡ h .count) × (length (traceOf s .kinds) ≡ h .count)
 unfolding traceAt
 counts-are s h e =
     let a = accepted-passed s h e in

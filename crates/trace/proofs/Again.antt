@@ -1,7 +1,7 @@
 -- Encoding what was read gives the bytes again.
 use mathlib.Core.Path.{_≡_, refl, ap, _∙_}
 use mathlib.Core.List.{List, [], _∷_, _++_, append-assoc, append-nil}
-use mathlib.Core.Bool.{Bool, true, false, _&&_}
+use mathlib.Core.Bool.{Bool, true, false, _&&_, and-eq-true-iff}
 use Prim.Native.Nat.{ℕ, zero, suc, _+_, _*_, _≤_, _<_}
 use native.Mathlib.Nat.{add-assoc}
 use native.Mathlib.Omega.{arith}
@@ -9,13 +9,12 @@ use lib.ListN.{length, getD, take, drop, length-drop}
 use lib.Seq.{take-add, take-all, length-take-le}
 use lib.Dec.{eqb}
 use borrow.Author.Tests.{eqb-true}
-use Rattle.word.specs.Number.{numberAt, bytesOf, Bytes}
+use Rattle.word.specs.Number.{numberAt, bytesOf}
+use Rattle.word.proofs.Laws.{Bytes, bytes-again, bytes-take, bytes-drop, part}
 use Rattle.word.specs.declared.Order.{Order}
 use Rattle.word.specs.declared.Order.the-variants.{High, Low}
-use Rattle.word.proofs.Laws.{bytes-again, bytes-take, bytes-drop, part}
-use Rattle.refusal.proofs.Laws.{both}
 use Rattle.trace.specs.Layout.{markHigh, markLow, begins, pickMark, markOf, fileLength, editionAt, firstZeroAt, countAt, offsetAt, writesAt, lengthAt, lastZeroAt, settingsAt, pageAt, kindAt, zeroAt, pagesAt, kindsAt, writesIn, traceAt}
-use Rattle.trace.specs.Encode.{markBytes, countBytes, shortBytes, longBytes, headerBytes, recordBytes, recordsTo, encode}
+use Rattle.trace.specs.Encode.{markBytes, headerBytes, recordBytes, recordsTo, encode}
 use Rattle.trace.specs.declared.Mark.the-variants.{Known, Unknown}
 use Rattle.trace.proofs.Lists.{length-upTo, upTo-at, zero-at}
 use Rattle.trace.proofs.Accept.{Passed}
@@ -31,9 +30,9 @@ begins-is s m e =
     let t3 = eqb (getD s 3 0) (getD m 3 0) in
     let t2 = eqb (getD s 2 0) (getD m 2 0) in
     let t1 = eqb (getD s 1 0) (getD m 1 0) in
-    let b0 = both (eqb (getD s 0 0) (getD m 0 0)) (t1 && (t2 && t3)) e in
-    let b1 = both t1 (t2 && t3) (b0 .1) in
-    let b2 = both t2 t3 (b1 .1) in
+    let b0 = and-eq-true-iff (eqb (getD s 0 0) (getD m 0 0)) (t1 && (t2 && t3)) .0 e in
+    let b1 = and-eq-true-iff t1 (t2 && t3) .0 (b0 .1) in
+    let b2 = and-eq-true-iff t2 t3 .0 (b1 .1) in
     rw (
       eqb-true (getD s 0 0) (getD m 0 0) (b0 .0),
       eqb-true (getD s 1 0) (getD m 1 0) (b1 .0),
@@ -70,11 +69,10 @@ module _ (o : Order) (s : List ℕ) (bs : Bytes s) where
   header-again : (n w : ℕ) → 48 ≤ length s → take 4 s ≡ markBytes o → editionAt o s ≡ 1 → firstZeroAt o s ≡ 0 → countAt o s ≡ n
       → offsetAt o s ≡ 48 → writesAt o s ≡ w → lengthAt o s ≡ fileLength n → lastZeroAt o s ≡ 0
       → headerBytes o (settingsAt o s) n w ≡ take 48 s
-  unfolding headerBytes countBytes shortBytes longBytes settingsAt
+  unfolding headerBytes settingsAt
   header-again n w h mark e4 e6 e8 e12 e16 e20 e44 =
-      rw (← mark)
-      (simp (← append-assoc)
-      (rw (
+      rw (
+        ← mark,
         join-is 4 2 1 (omega arith) e4,
         join-is 6 2 0 (omega arith) e6,
         join-is 8 4 n (omega arith) e8,
@@ -90,7 +88,7 @@ module _ (o : Order) (s : List ℕ) (bs : Bytes s) where
         join 36 4 (omega arith),
         join 40 4 (omega arith),
         join-is 44 4 0 (omega arith) e44,
-      )))
+      )
 
   records-again : (pages kinds : List ℕ) (i : ℕ) → fileLength i ≤ length s
       → ((k : ℕ) → k < i → getD pages k 0 ≡ pageAt o s k) → ((k : ℕ) → k < i → getD kinds k 0 ≡ kindAt o s k) → ((k : ℕ) → k < i → zeroAt o s k ≡ 0)

@@ -1,7 +1,7 @@
 -- Lists made one by one: what stands in them, and what a turn of a loop adds.
 use mathlib.Core.Path.{_≡_, refl, sym, _∙_}
 use mathlib.Core.List.{List, [], _∷_, _++_}
-use mathlib.Core.Bool.{true, _&&_, and-true, and-assoc}
+use mathlib.Core.Bool.{true, _&&_, and-true, and-assoc, and-eq-true-iff}
 use mathlib.Core.Logic.{⊎-elim, _⊎_, inl, inr}
 use Prim.Native.Nat.{ℕ, zero, suc, _+_, _-_, _≤_, _<_}
 use native.Mathlib.Nat.{zero-add, eq-or-lt-of-le, eq-zero-or-pos}
@@ -12,7 +12,6 @@ use lib.Seq.{sets, getD-at, ext-getD}
 use lib.Dec.{eqb}
 use borrow.Author.Tests.{eqb-true, leb-true}
 use Rattle.word.proofs.Laws.{sets-append}
-use Rattle.refusal.proofs.Laws.{both}
 use Rattle.trace.specs.Layout.{upTo, isWrite, writesIn, knownKind, knownKinds, allZero}
 
 -- ---- f 0, f 1, ..
@@ -66,7 +65,7 @@ zero-snoc (x ∷ l) z = rw (zero-snoc l z) (sym (and-assoc (eqb x 0) (allZero l)
 pub zero-at : (f : ℕ → ℕ) (n : ℕ) → allZero (upTo f n) ≡ true → (i : ℕ) → i < n → f i ≡ 0
 zero-at f zero h i l = absurd (omega arith)
 zero-at f (suc n) h i l =
-    let b = both (allZero (upTo f n)) (eqb (f n) 0) (sym (zero-snoc (upTo f n) (f n)) ∙ h) in
+    let b = and-eq-true-iff (allZero (upTo f n)) (eqb (f n) 0) .0 (sym (zero-snoc (upTo f n) (f n)) ∙ h) in
     let r : (i ≡ n) ⊎ (i < n) = eq-or-lt-of-le (omega arith) in
     ⊎-elim (λ e. rw e (eqb-true (f n) 0 (b .1))) (λ k. zero-at f n (b .0) i k) r
 
@@ -93,5 +92,5 @@ writes-le (k ∷ l) = omega (arith, writes-le l, write-le k)
 -- a known kind is at most 3, and so is the 0 behind the list's end
 pub known-le : (l : List ℕ) (i : ℕ) → knownKinds l ≡ true → getD l i 0 ≤ 3
 known-le [] i h = omega arith
-known-le (k ∷ l) zero h = leb-true k 3 (both (knownKind k) (knownKinds l) h .0)
-known-le (k ∷ l) (suc i) h = known-le l i (both (knownKind k) (knownKinds l) h .1)
+known-le (k ∷ l) zero h = leb-true k 3 (and-eq-true-iff (knownKind k) (knownKinds l) .0 h .0)
+known-le (k ∷ l) (suc i) h = known-le l i (and-eq-true-iff (knownKind k) (knownKinds l) .0 h .1)

@@ -1,74 +1,78 @@
--- The reader's answers, one law a way.
+-- The reader's answers, one law a way, and writing what was read.
 use mathlib.Core.Path.{_≡_, refl, sym, ap, _∙_}
 use mathlib.Core.List.{List}
-use mathlib.Core.Bool.{Bool, true, false, _&&_}
+use mathlib.Core.Bool.{Bool, true, false, _&&_, and-eq-true-iff}
 use Prim.Native.Nat.{ℕ, _≤_}
-use native.Mathlib.Omega.{arith}
 use lib.ListN.{length, take}
 use lib.Seq.{sets}
 use lib.Dec.{leb}
 use borrow.Author.Tests.{leb-true}
-use Rattle.word.specs.Number.{Bytes}
-use Rattle.word.proofs.Laws.{sets-front}
-use Rattle.refusal.specs.Refusals.{demand, noRoom}
-use Rattle.refusal.proofs.Laws.{met, both}
+use Rattle.word.proofs.Laws.{Bytes, sets-front}
+use Rattle.refusal.specs.Refusals.{demand, orElse, noRoom}
+use Rattle.refusal.proofs.Laws.{met, neither, or-first}
 use Rattle.trace.specs.Layout.{Trace}
-use Rattle.trace.specs.Encode.{encode}
-use Rattle.trace.specs.Check.{traceOf, Decoded, decoded, decode, checkOf, fitted, readOf, pagesInto, kindsInto, ReadInto, WritesAgain}
-use Rattle.trace.specs.Check.Decoded.{Whole, Faulty}
-use Rattle.trace.specs.declared.Header.{Header}
+use Rattle.trace.specs.Check.{refusalOf, traceOf, checkOf, readRefusal, ReadInto, WritesAgain}
+use Rattle.trace.specs.declared.Summary.{Summary}
 use Rattle.trace.specs.declared.Checked.{Checked}
 use Rattle.trace.specs.declared.Checked.the-variants.{Refused, Accepted}
-use Rattle.trace.proofs.Accept.{whole-of, faulty-of, decoded-whole, accepted, accepted-decodes, counts-are}
-use Rattle.trace.proofs.Whole.{proper-of, encode-decode}
+use Rattle.trace.proofs.Laws.{refused, unstored, accepts}
+use Rattle.trace.proofs.Accept.{accepted, refused-is, counts-are}
+use Rattle.trace.proofs.Whole.{proper, encode-trace}
 
-module _ (s pages kinds : List ℕ) (h : Header) (e : checkOf s ≡ Accepted h) where
-  fits-as : (fits : Bool) → (leb (h .count) (length pages) && leb (h .count) (length kinds)) ≡ fits
-      → readOf s (length pages) (length kinds) ≡ decoded (demand fits noRoom 0) (traceOf s)
-  unfolding readOf
-  fits-as fits test = rw (accepted-decodes s h e, counts-are s h e .0, counts-are s h e .1, test)
+-- a list of p places for pages and one of k for kinds hold n
+abbrev pub hold : ℕ → ℕ → ℕ → Bool
+hold n p k = leb n p && leb n k
 
-  pub read-whole : (pages′ kinds′ : List ℕ) → (leb (h .count) (length pages) && leb (h .count) (length kinds)) ≡ true
+module _ (s pages kinds : List ℕ) (h : Summary) (e : checkOf s ≡ Accepted h) where
+  room-refusal : (fits : Bool) → hold (h .count) (length pages) (length kinds) ≡ fits → readRefusal s (length pages) (length kinds) ≡ demand fits noRoom 0
+  unfolding readRefusal
+  room-refusal fits test = rw (accepted s h e .0, counts-are s h e .0, counts-are s h e .1, test)
+
+  pub read-whole : (pages′ kinds′ : List ℕ) → hold (h .count) (length pages) (length kinds) ≡ true
       → pages′ ≡ sets pages 0 (traceOf s .pages) → kinds′ ≡ sets kinds 0 (traceOf s .kinds) → ReadInto s pages kinds (Accepted h) pages′ kinds′
   read-whole pages′ kinds′ test p k =
-      let r = fits-as true test in
+      let r = room-refusal true test in
       record { answers = rw r (ap Accepted (accepted s h e .1)); pages-hold = rw r p; kinds-hold = rw r k }
 
-  pub read-no-room : (leb (h .count) (length pages) && leb (h .count) (length kinds)) ≡ false → ReadInto s pages kinds (Refused noRoom) pages kinds
-  read-no-room test = let r = fits-as false test in record { answers = rw r; pages-hold = rw r; kinds-hold = rw r }
+  pub read-no-room : hold (h .count) (length pages) (length kinds) ≡ false → ReadInto s pages kinds (Refused noRoom) pages kinds
+  read-no-room test = let r = room-refusal false test in record { answers = rw r; pages-hold = rw r; kinds-hold = rw r }
 
 pub read-refused : (s pages kinds : List ℕ) (r : ℕ) → checkOf s ≡ Refused r → ReadInto s pages kinds (Refused r) pages kinds
-unfolding readOf checkOf
-read-refused s pages kinds r e = let f = faulty-of (decode s) r e in record { answers = rw f; pages-hold = rw f; kinds-hold = rw f }
+unfolding readRefusal
+read-refused s pages kinds r e =
+    let f = refused-is s r e in
+    let t = traceOf s in
+    let next = demand (leb (length (t .pages)) (length pages) && leb (length (t .kinds)) (length kinds)) noRoom 0 in
+    let first : orElse (refusalOf s) next ≡ r = rw (f .0) (sym (or-first r next (f .1))) in
+    record {
+      answers = rw first (refused r t (f .1));
+      pages-hold = rw first (unstored (λ (u : Trace). u .pages) r t pages (f .1));
+      kinds-hold = rw first (unstored (λ (u : Trace). u .kinds) r t kinds (f .1));
+    }
 
--- a trace that fits was decoded, and both lists hold it
-pub fitted-whole : (pages kinds : ℕ) (d : Decoded) (t : Trace) → fitted pages kinds d ≡ Whole t → (d ≡ Whole t) × (length (t .pages) ≤ pages) × (length (t .kinds) ≤ kinds)
-fitted-whole pages kinds (Faulty r) t e = absurd (let z : _≡_ {A = ℕ} 0 1 = cc in omega arith)
-fitted-whole pages kinds (Whole u) t e =
-    let p = leb (length (u .pages)) pages in
-    let k = leb (length (u .kinds)) kinds in
-    let w = decoded-whole (demand (p && k) noRoom 0) u t e in
-    let b = both p k (met (p && k) 12 0 (w .0) .0) in
-    rw (← w .1) (refl, leb-true (length (u .pages)) pages (b .0), leb-true (length (u .kinds)) kinds (b .1))
-
-encodes : (s pages kinds pages′ kinds′ : List ℕ) (t : Trace) → Bytes s → readOf s (length pages) (length kinds) ≡ Whole t
-    → pages′ ≡ sets pages 0 (t .pages) → kinds′ ≡ sets kinds 0 (t .kinds)
-    → encode (record { settings = t .settings; order = t .order; pages = take (length (t .pages)) pages′; kinds = take (length (t .pages)) kinds′ }) ≡ s
-unfolding readOf
-encodes s pages kinds pages′ kinds′ t bs w p k =
-    let n = length (t .pages) in
-    let f = fitted-whole (length pages) (length kinds) (decode s) t w in
-    let same : length (t .kinds) ≡ n = sym (proper-of s t bs (f .0) .same) in
-    let fits : n ≤ length kinds = rw same at (f .2) in
-    rw (p, k, sets-front pages (t .pages) n refl (f .1), sets-front kinds (t .kinds) n same fits) (encode-decode s t bs (f .0))
+-- a reader that refuses nothing has room for the records of a trace that nothing refuses
+read-grants : (s : List ℕ) (pages kinds : ℕ) → readRefusal s pages kinds ≡ 0
+    → (refusalOf s ≡ 0) × (length (traceOf s .pages) ≤ pages) × (length (traceOf s .kinds) ≤ kinds)
+unfolding readRefusal
+read-grants s pages kinds z =
+    let p = leb (length (traceOf s .pages)) pages in
+    let k = leb (length (traceOf s .kinds)) kinds in
+    let n = neither (refusalOf s) (demand (p && k) noRoom 0) z in
+    let b = and-eq-true-iff p k .0 (met (p && k) 12 0 (n .1) .0) in
+    (n .0, leb-true (length (traceOf s .pages)) pages (b .0), leb-true (length (traceOf s .kinds)) kinds (b .1))
 
 -- what the reader gives has the encoding that was read
 pub writes-again : (s pages kinds : List ℕ) (answer : Checked) (pages′ kinds′ : List ℕ) → Bytes s → ReadInto s pages kinds answer pages′ kinds′ → WritesAgain s answer pages′ kinds′
 writes-again s pages kinds answer pages′ kinds′ bs i h e =
-    let w = whole-of (readOf s (length pages) (length kinds)) h (sym (i .answers) ∙ e) in
-    let p : pages′ ≡ sets pages 0 (w .0 .pages) = i .pages-hold ∙ ap (λ (d : Decoded). pagesInto d pages) (w .1) in
-    let k : kinds′ ≡ sets kinds 0 (w .0 .kinds) = i .kinds-hold ∙ ap (λ (d : Decoded). kindsInto d kinds) (w .1) in
-    rw (w .2) (encodes s pages kinds pages′ kinds′ (w .0) bs (w .1) p k)
+    let t = traceOf s in
+    let n = length (t .pages) in
+    let a = accepts (readRefusal s (length pages) (length kinds)) t h (sym (i .answers) ∙ e) in
+    let g = read-grants s (length pages) (length kinds) (a .0) in
+    let same : length (t .kinds) ≡ n = sym (proper s bs (g .0) .same) in
+    let fits : n ≤ length kinds = rw same at (g .2) in
+    let p : take n pages′ ≡ t .pages = rw (i .pages-hold, a .0) (sets-front pages (t .pages) n refl (g .1)) in
+    let k : take n kinds′ ≡ t .kinds = rw (i .kinds-hold, a .0) (sets-front kinds (t .kinds) n same fits) in
+    rw (a .1, p, k) (encode-trace s bs (g .0))
 
 -- any two outcomes that the reader's contract allows are the same
 pub read-one : (s pages kinds : List ℕ) (a b : Checked) (pages₁ pages₂ kinds₁ kinds₂ : List ℕ)

@@ -15,9 +15,9 @@ use Rattle.word.proofs.Laws.{number-back}
 use Rattle.settings.specs.declared.Settings.{Settings}
 use Rattle.settings.proofs.Laws.{ranges}
 use Rattle.trace.specs.Layout.{Trace, recordLimit, headerLength, fileLength, markOf, editionAt, firstZeroAt, countAt, offsetAt, writesAt, lengthAt, lastZeroAt, settingsAt, pageAt, kindAt, zeroAt, upTo, writesIn, traceAt}
-use Rattle.trace.specs.Encode.{countBytes, shortBytes, longBytes, headerBytes, recordBytes, recordsTo, encode, Proper}
-use Rattle.trace.specs.Check.{layoutOf, contentOf, refusalIn, refusalOf, traceOf, decode}
-use Rattle.trace.specs.Check.Decoded.{Whole}
+use Rattle.trace.specs.Encode.{headerBytes, recordBytes, recordsTo, encode, Proper}
+use Rattle.trace.specs.Check.{layoutRefusal, contentRefusal, refusalIn, refusalOf, traceOf, decode}
+use Rattle.trace.specs.Check.Outcome.{Whole}
 use Rattle.trace.specs.declared.Mark.the-variants.{Known}
 use Rattle.trace.proofs.Lists.{upTo-is, all-zero, writes-le, known-le}
 use Rattle.trace.proofs.Accept.{trace-is}
@@ -54,7 +54,7 @@ fields High page kind = (refl, refl, refl)
 fields Low page kind = (refl, refl, refl)
 
 -- what stands at each place of a header, as bytes
-record HeaderOf (o : Order) (s : List ℕ) (t : Settings) (n w : ℕ) : Type 0 where
+record FieldsOf (o : Order) (s : List ℕ) (t : Settings) (n w : ℕ) : Type 0 where
   is-edition : editionAt o s ≡ numberOf o (bytesOf o 2 1)
   is-zero₁ : firstZeroAt o s ≡ numberOf o (bytesOf o 2 0)
   is-count : countAt o s ≡ numberOf o (bytesOf o 4 n)
@@ -71,19 +71,19 @@ record HeaderOf (o : Order) (s : List ℕ) (t : Settings) (n w : ℕ) : Type 0 w
   is-seed : numberAt o 4 40 s ≡ numberOf o (bytesOf o 4 (t .seed))
   is-zero₂ : lastZeroAt o s ≡ numberOf o (bytesOf o 4 0)
 
-header-read : (o : Order) (t : Settings) (n w : ℕ) (rest : List ℕ) → HeaderOf o (headerBytes o t n w ++ rest) t n w
-unfolding headerBytes countBytes shortBytes longBytes
+header-read : (o : Order) (t : Settings) (n w : ℕ) (rest : List ℕ) → FieldsOf o (headerBytes o t n w ++ rest) t n w
+unfolding headerBytes
 header-read High t n w rest = record { is-edition = refl; is-zero₁ = refl; is-count = refl; is-offset = refl; is-writes = refl; is-long = refl; is-rule = refl; is-frames = refl; is-batch = refl; is-cap = refl; is-sample = refl; is-weight = refl; is-epoch = refl; is-seed = refl; is-zero₂ = refl }
 header-read Low t n w rest = record { is-edition = refl; is-zero₁ = refl; is-count = refl; is-offset = refl; is-writes = refl; is-long = refl; is-rule = refl; is-frames = refl; is-batch = refl; is-cap = refl; is-sample = refl; is-weight = refl; is-epoch = refl; is-seed = refl; is-zero₂ = refl }
 
 mark-read : (o : Order) (t : Settings) (n w : ℕ) (rest : List ℕ) → markOf (headerBytes o t n w ++ rest) ≡ Known o
-unfolding headerBytes countBytes
+unfolding headerBytes
 mark-read High t n w rest = refl
 mark-read Low t n w rest = refl
 
 module _ (t : Trace) (ok : Proper t) where
   -- what the encoding holds at the places of the header
-  head : HeaderOf (t .order) (encode t) (t .settings) (length (t .pages)) (writesIn (t .kinds))
+  head : FieldsOf (t .order) (encode t) (t .settings) (length (t .pages)) (writesIn (t .kinds))
   unfolding encode
   head = header-read (t .order) (t .settings) (length (t .pages)) (writesIn (t .kinds)) (recordsTo (t .order) (t .pages) (t .kinds) (length (t .pages)))
 
@@ -150,8 +150,8 @@ module _ (t : Trace) (ok : Proper t) where
   unfolding traceAt
   trace-read = rw (settings-read, count, pages-read, kinds-read)
 
-  layout-read : layoutOf (t .order) (encode t) ≡ 0
-  unfolding layoutOf
+  layout-read : layoutRefusal (t .order) (encode t) ≡ 0
+  unfolding layoutRefusal
   layout-read =
       let o = t .order in
       let n = length (t .pages) in
@@ -165,8 +165,8 @@ module _ (t : Trace) (ok : Proper t) where
       )
       (simp (le-leb n recordLimit (ok .few), eq-eqb (fileLength n) (fileLength n) refl))
 
-  content-read : contentOf (t .order) (encode t) ≡ 0
-  unfolding contentOf
+  content-read : contentRefusal (t .order) (encode t) ≡ 0
+  unfolding contentRefusal
   content-read =
       let o = t .order in
       let w = writesIn (t .kinds) in

@@ -9,27 +9,15 @@ use Rattle.word.specs.declared.Order.the-variants.{High, Low}
 use Rattle.word.proofs.Laws.{length-bytes}
 use Rattle.settings.specs.declared.Settings.{Settings}
 use Rattle.trace.specs.Layout.{Trace, fileLength, writesIn}
-use Rattle.trace.specs.Encode.{markBytes, countBytes, shortBytes, longBytes, headerBytes, recordBytes, recordsTo, encode}
+use Rattle.trace.specs.Encode.{markBytes, headerBytes, recordBytes, recordsTo, encode}
 
 pub length-mark : (o : Order) → length (markBytes o) ≡ 4
 length-mark High = refl
 length-mark Low = refl
 
-pub length-count : (o : Order) (n writes : ℕ) → length (countBytes o n writes) ≡ 24
-unfolding countBytes
-length-count o n writes = simp (length-append, length-bytes, length-mark)
-
-pub length-short : (o : Order) (t : Settings) → length (shortBytes o t) ≡ 12
-unfolding shortBytes
-length-short o t = simp (length-append, length-bytes)
-
-length-long : (o : Order) (t : Settings) → length (longBytes o t) ≡ 12
-unfolding longBytes
-length-long o t = simp (length-append, length-bytes)
-
 pub length-header : (o : Order) (t : Settings) (n writes : ℕ) → length (headerBytes o t n writes) ≡ 48
 unfolding headerBytes
-length-header o t n writes = simp (length-append, length-count, length-short, length-long)
+length-header o t n writes = simp (length-append, length-bytes, length-mark)
 
 length-record : (o : Order) (page kind : ℕ) → length (recordBytes o page kind) ≡ 8
 unfolding recordBytes

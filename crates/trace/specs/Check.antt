@@ -10,11 +10,11 @@ use Rattle.word.specs.declared.Order.{Order}
 use Rattle.word.specs.declared.Order.the-variants.{High}
 use Rattle.refusal.specs.Refusals.{demand, orElse, tooShort, unknownMark, otherEdition, tooMany, wrongLength, badField, wrongWrites, outOfRange, noRoom}
 use Rattle.settings.specs.Settings.{inRange}
-use Rattle.trace.specs.Layout.{Trace, edition, recordLimit, headerLength, fileLength, markOf, editionAt, firstZeroAt, countAt, offsetAt, writesAt, lengthAt, settingsAt, lastZeroAt, kindsAt, zerosAt, knownKinds, writesIn, allZero, traceAt}
-use Rattle.trace.specs.Encode.{encode}
+use Rattle.trace.specs.Layout.{Trace, traceFrom, edition, recordLimit, headerLength, fileLength, markOf, editionAt, firstZeroAt, countAt, offsetAt, writesAt, lengthAt, settingsAt, lastZeroAt, kindsAt, zerosAt, knownKinds, writesIn, allZero, traceAt}
+use Rattle.trace.specs.Encode.{encode, Proper}
 use Rattle.trace.specs.declared.Mark.{Mark}
 use Rattle.trace.specs.declared.Mark.the-variants.{Known, Unknown}
-use Rattle.trace.specs.declared.Header.{Header}
+use Rattle.trace.specs.declared.Summary.{Summary}
 use Rattle.trace.specs.declared.Checked.{Checked}
 use Rattle.trace.specs.declared.Checked.the-variants.{Refused, Accepted}
 
@@ -24,8 +24,8 @@ lengthsRight o s =
     eqb (offsetAt o s) headerLength && (eqb (lengthAt o s) (fileLength (countAt o s)) && eqb (length s) (fileLength (countAt o s)))
 
 -- refusals 3 to 5: edition, record count, offset and lengths
-unfoldable pub layoutOf : Order → List ℕ → ℕ
-layoutOf o s =
+unfoldable pub layoutRefusal : Order → List ℕ → ℕ
+layoutRefusal o s =
     demand (eqb (editionAt o s) edition) otherEdition
     (demand (leb (countAt o s) recordLimit) tooMany
     (demand (lengthsRight o s) wrongLength 0))
@@ -35,15 +35,15 @@ abbrev pub zerosRight : Order → List ℕ → Bool
 zerosRight o s = eqb (firstZeroAt o s) 0 && (eqb (lastZeroAt o s) 0 && allZero (zerosAt o s))
 
 -- refusals 6 to 8: zero fields and kinds, number of writes, settings
-unfoldable pub contentOf : Order → List ℕ → ℕ
-contentOf o s =
+unfoldable pub contentRefusal : Order → List ℕ → ℕ
+contentRefusal o s =
     demand (zerosRight o s && knownKinds (kindsAt o s)) badField
     (demand (eqb (writesAt o s) (writesIn (kindsAt o s))) wrongWrites
     (demand (inRange (settingsAt o s)) outOfRange 0))
 
 -- refusals 3 to 8 of bytes in a known order
 unfoldable pub refusalIn : Order → List ℕ → ℕ
-refusalIn o s = orElse (layoutOf o s) (contentOf o s)
+refusalIn o s = orElse (layoutRefusal o s) (contentRefusal o s)
 
 -- refusals 2 to 8
 abbrev pub refusalMarked : Mark → List ℕ → ℕ
@@ -63,65 +63,69 @@ orderMarked Unknown = High
 unfoldable pub traceOf : List ℕ → Trace
 traceOf s = traceAt (orderMarked (markOf s)) s
 
--- a trace read, or its refusal
-pub data Decoded : Type 0 where
-  Whole : Trace → Decoded
-  Faulty : ℕ → Decoded
+-- what a call comes to: a whole trace, or a refusal
+pub data Outcome : Type 0 where
+  Whole : Trace → Outcome
+  Faulty : ℕ → Outcome
 
 -- the trace where nothing is refused
-abbrev pub decoded : ℕ → Trace → Decoded
-decoded zero t = Whole t
-decoded (suc r) t = Faulty (suc r)
+abbrev pub outcome : ℕ → Trace → Outcome
+outcome zero t = Whole t
+outcome (suc r) t = Faulty (suc r)
 
 -- reading a trace
-unfoldable pub decode : List ℕ → Decoded
-decode s = decoded (refusalOf s) (traceOf s)
+unfoldable pub decode : List ℕ → Outcome
+decode s = outcome (refusalOf s) (traceOf s)
 
 -- settings, order and record count of a trace
-abbrev pub headerOf : Trace → Header
-headerOf t = record { settings = t .settings; order = t .order; count = length (t .pages) }
+abbrev pub summaryOf : Trace → Summary
+summaryOf t = record { settings = t .settings; order = t .order; count = length (t .pages) }
 
 -- accepted with settings, order and record count, or refused
-abbrev pub checked : Decoded → Checked
-checked (Whole t) = Accepted (headerOf t)
+abbrev pub checked : Outcome → Checked
+checked (Whole t) = Accepted (summaryOf t)
 checked (Faulty r) = Refused r
+
+-- the number of an answer: 0, or the refusal
+abbrev pub numberOfAnswer : Checked → ℕ
+numberOfAnswer (Accepted h) = 0
+numberOfAnswer (Refused r) = r
 
 -- the checker's answer
 unfoldable pub checkOf : List ℕ → Checked
 checkOf s = checked (decode s)
 
--- the paper's number of an answer: 0, or the refusal
-abbrev pub numberOfAnswer : Checked → ℕ
-numberOfAnswer (Refused r) = r
-numberOfAnswer (Accepted h) = 0
+-- all that other layers may use of a trace that the checker accepts
+pub record Promised (s : List ℕ) (h : Summary) : Type 0 where
+  pub decodes : decode s ≡ Whole (traceOf s)
+  pub summary : h ≡ summaryOf (traceOf s)
+  pub holds : Proper (traceOf s)
+
+-- what an answer of the checker promises
+abbrev pub Promises : List ℕ → Checked → Type 0
+Promises s answer = (h : Summary) → answer ≡ Accepted h → Promised s h
 
 -- the reader needs n places in each list: after the trace's refusals 13
-abbrev pub fitted : ℕ → ℕ → Decoded → Decoded
-fitted pages kinds (Whole t) = decoded (demand (leb (length (t .pages)) pages && leb (length (t .kinds)) kinds) noRoom 0) t
-fitted pages kinds (Faulty r) = Faulty r
+unfoldable pub readRefusal : List ℕ → ℕ → ℕ → ℕ
+readRefusal s pages kinds =
+    orElse (refusalOf s) (demand (leb (length (traceOf s .pages)) pages && leb (length (traceOf s .kinds)) kinds) noRoom 0)
 
--- what the reader finds, where it is lent so many places for pages and for kinds
-unfoldable pub readOf : List ℕ → ℕ → ℕ → Decoded
-readOf s pages kinds = fitted pages kinds (decode s)
+-- what the reader comes to, where it is lent so many places for pages and for kinds
+abbrev pub readOf : List ℕ → ℕ → ℕ → Outcome
+readOf s pages kinds = outcome (readRefusal s pages kinds) (traceOf s)
 
--- a lent list of pages afterwards: the trace's at the front of what was there, or on a refusal what was there
-abbrev pub pagesInto : Decoded → List ℕ → List ℕ
-pagesInto (Whole t) lent = sets lent 0 (t .pages)
-pagesInto (Faulty r) lent = lent
-
--- the same of kinds
-abbrev pub kindsInto : Decoded → List ℕ → List ℕ
-kindsInto (Whole t) lent = sets lent 0 (t .kinds)
-kindsInto (Faulty r) lent = lent
+-- lent memory afterwards: a part of the trace at the front of what was there; on a refusal, what was there
+abbrev pub putInto : (Trace → List ℕ) → Outcome → List ℕ → List ℕ
+putInto part (Whole t) lent = sets lent 0 (part t)
+putInto part (Faulty r) lent = lent
 
 -- the reader on lent lists: its answer, and every place of both lists afterwards
 pub record ReadInto (s pages kinds : List ℕ) (answer : Checked) (pages′ kinds′ : List ℕ) : Type 0 where
   pub answers : answer ≡ checked (readOf s (length pages) (length kinds))
-  pub pages-hold : pages′ ≡ pagesInto (readOf s (length pages) (length kinds)) pages
-  pub kinds-hold : kinds′ ≡ kindsInto (readOf s (length pages) (length kinds)) kinds
+  pub pages-hold : pages′ ≡ putInto (λ (t : Trace). t .pages) (readOf s (length pages) (length kinds)) pages
+  pub kinds-hold : kinds′ ≡ putInto (λ (t : Trace). t .kinds) (readOf s (length pages) (length kinds)) kinds
 
 -- reading, then writing: where the reader accepts, what it gives has the encoding that was read
 abbrev pub WritesAgain : List ℕ → Checked → List ℕ → List ℕ → Type 0
 WritesAgain s answer pages kinds =
-    (h : Header) → answer ≡ Accepted h
-    → encode (record { settings = h .settings; order = h .order; pages = take (h .count) pages; kinds = take (h .count) kinds }) ≡ s
+    (h : Summary) → answer ≡ Accepted h → encode (traceFrom (h .settings) (h .order) (take (h .count) pages) (take (h .count) kinds)) ≡ s

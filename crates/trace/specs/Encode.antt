@@ -1,5 +1,5 @@
 -- One trace in one order has one encoding: the bytes of the layout, in its order.
-use Prim.Native.Nat.{ℕ, zero, suc, _^_, _≤_, _<_}
+use Prim.Native.Nat.{ℕ, zero, suc, _≤_, _<_}
 use mathlib.Core.List.{List, [], _++_}
 use mathlib.Core.Bool.{true}
 use mathlib.Core.Path.{_≡_}
@@ -9,34 +9,36 @@ use Rattle.word.specs.declared.Order.{Order}
 use Rattle.word.specs.declared.Order.the-variants.{High, Low}
 use Rattle.settings.specs.Settings.{inRange}
 use Rattle.settings.specs.declared.Settings.{Settings}
-use Rattle.trace.specs.Layout.{Trace, edition, recordLimit, headerLength, fileLength, markHigh, markLow, knownKinds, writesIn}
+use Rattle.trace.specs.Layout.{Trace, traceFrom, edition, recordLimit, headerLength, fileLength, markHigh, markLow, knownKinds, writesIn}
 
 -- the mark of an order
 abbrev pub markBytes : Order → List ℕ
 markBytes High = markHigh
 markBytes Low = markLow
 
--- mark, edition, zero, record count, record offset, number of write records, file length
-unfoldable pub countBytes : Order → ℕ → ℕ → List ℕ
-countBytes o n writes =
-    (((((markBytes o ++ bytesOf o 2 edition) ++ bytesOf o 2 0) ++ bytesOf o 4 n) ++ bytesOf o 4 headerLength) ++ bytesOf o 4 writes) ++ bytesOf o 4 (fileLength n)
-
--- rule, frames, batch size, count cap, sample size, write weight
-unfoldable pub shortBytes : Order → Settings → List ℕ
-shortBytes o t =
-    ((((bytesOf o 2 (t .rule) ++ bytesOf o 2 (t .frames)) ++ bytesOf o 2 (t .batch)) ++ bytesOf o 2 (t .cap)) ++ bytesOf o 2 (t .sample)) ++ bytesOf o 2 (t .weight)
-
--- epoch length, seed, zero
-unfoldable pub longBytes : Order → Settings → List ℕ
-longBytes o t = (bytesOf o 4 (t .epoch) ++ bytesOf o 4 (t .seed)) ++ bytesOf o 4 0
-
--- the header
+-- the header of n records of which some are writes, field by field
 unfoldable pub headerBytes : Order → Settings → ℕ → ℕ → List ℕ
-headerBytes o t n writes = (countBytes o n writes ++ shortBytes o t) ++ longBytes o t
+headerBytes o t n writes =
+    markBytes o
+    ++ bytesOf o 2 edition
+    ++ bytesOf o 2 0
+    ++ bytesOf o 4 n
+    ++ bytesOf o 4 headerLength
+    ++ bytesOf o 4 writes
+    ++ bytesOf o 4 (fileLength n)
+    ++ bytesOf o 2 (t .rule)
+    ++ bytesOf o 2 (t .frames)
+    ++ bytesOf o 2 (t .batch)
+    ++ bytesOf o 2 (t .cap)
+    ++ bytesOf o 2 (t .sample)
+    ++ bytesOf o 2 (t .weight)
+    ++ bytesOf o 4 (t .epoch)
+    ++ bytesOf o 4 (t .seed)
+    ++ bytesOf o 4 0
 
 -- a record: page, kind, zero
 unfoldable pub recordBytes : Order → ℕ → ℕ → List ℕ
-recordBytes o page kind = (bytesOf o 4 page ++ bytesOf o 2 kind) ++ bytesOf o 2 0
+recordBytes o page kind = bytesOf o 4 page ++ bytesOf o 2 kind ++ bytesOf o 2 0
 
 -- the first n records
 abbrev pub recordsTo : Order → List ℕ → List ℕ → ℕ → List ℕ
@@ -55,7 +57,7 @@ other Low = High
 
 -- converting writes the same trace in the other order
 abbrev pub turned : Trace → Trace
-turned t = record { settings = t .settings; order = other (t .order); pages = t .pages; kinds = t .kinds }
+turned t = traceFrom (t .settings) (other (t .order)) (t .pages) (t .kinds)
 
 -- a trace that the layout can hold: lists of one length within the limit, known kinds, settings in range, pages and seed of 4 bytes
 pub record Proper (t : Trace) : Type 0 where
@@ -63,5 +65,5 @@ pub record Proper (t : Trace) : Type 0 where
   pub few : length (t .pages) ≤ recordLimit
   pub known : knownKinds (t .kinds) ≡ true
   pub range : inRange (t .settings) ≡ true
-  pub seed : t .settings .seed < 256 ^ 4
-  pub page : (i : ℕ) → getD (t .pages) i 0 < 256 ^ 4
+  pub seed : t .settings .seed < 4294967296
+  pub page : (i : ℕ) → getD (t .pages) i 0 < 4294967296

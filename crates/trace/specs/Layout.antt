@@ -26,7 +26,7 @@ headerLength = 48
 
 -- the length of a file of n records
 abbrev pub fileLength : ℕ → ℕ
-fileLength n = 48 + 8 * n
+fileLength n = headerLength + 8 * n
 
 -- the four bytes 01 02 03 04 for high byte first
 abbrev pub markHigh : List ℕ
@@ -90,17 +90,17 @@ settingsAt o s = record {
 abbrev pub lastZeroAt : Order → List ℕ → ℕ
 lastZeroAt o s = numberAt o 4 44 s
 
--- record i: page (4 bytes, any number)
+-- record i stands where a file of i records ends: page (4 bytes, any number)
 abbrev pub pageAt : Order → List ℕ → ℕ → ℕ
-pageAt o s i = numberAt o 4 (48 + 8 * i) s
+pageAt o s i = numberAt o 4 (fileLength i) s
 
 -- kind (2)
 abbrev pub kindAt : Order → List ℕ → ℕ → ℕ
-kindAt o s i = numberAt o 2 (48 + 8 * i + 4) s
+kindAt o s i = numberAt o 2 (fileLength i + 4) s
 
 -- zero (2)
 abbrev pub zeroAt : Order → List ℕ → ℕ → ℕ
-zeroAt o s i = numberAt o 2 (48 + 8 * i + 6) s
+zeroAt o s i = numberAt o 2 (fileLength i + 6) s
 
 -- the kinds: 0 read, 1 write, 2 pin, 3 unpin; 4 to 65,535 are bad
 abbrev pub knownKind : ℕ → Bool
@@ -151,9 +151,13 @@ pub record Trace : Type 0 where
   pub pages : List ℕ
   pub kinds : List ℕ
 
+-- the writer takes settings, an order, a list of pages and a list of kinds; the reader gives the same back
+abbrev pub traceFrom : Settings → Order → List ℕ → List ℕ → Trace
+traceFrom settings order pages kinds = record { settings = settings; order = order; pages = pages; kinds = kinds }
+
 -- the trace that bytes in an order hold
 unfoldable pub traceAt : Order → List ℕ → Trace
-traceAt o s = record { settings = settingsAt o s; order = o; pages = pagesAt o s; kinds = kindsAt o s }
+traceAt o s = traceFrom (settingsAt o s) o (pagesAt o s) (kindsAt o s)
 
 -- record i of a trace
 abbrev pub recordOf : Trace → ℕ → Record

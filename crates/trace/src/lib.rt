@@ -4,19 +4,19 @@ ghost use Prim.Native.Nat.{_≤_, _<_};
 ghost use lib.ListN.{length};
 ghost use lib.Seq.{sets};
 ghost use Rattle.trace.specs.Layout.{recordLimit, fileLength, begins, pickMark, markOf, settingsAt, countAt, kindAt, zeroAt, isWrite, knownKinds, writesIn, allZero, upTo, traceAt, recordOf};
-ghost use Rattle.trace.specs.Check.{layoutOf, contentOf, refusalIn, checked, decoded, checkOf, traceOf, ReadInto, WritesAgain};
+ghost use Rattle.trace.specs.Check.{layoutRefusal, contentRefusal, refusalIn, checked, outcome, checkOf, Promises, traceOf, ReadInto, WritesAgain};
 use refusal::demanded;
 use settings::Settings;
 use word::Order;
 
 // What the first four bytes say.
-pub enum Mark {
+enum Mark {
     Known(Order),
     Unknown,
 }
 
 // What the checker tells of a trace that it accepts.
-pub struct Header {
+pub struct Summary {
     pub settings: Settings,
     pub order: Order,
     pub count: u32,
@@ -24,11 +24,11 @@ pub struct Header {
 
 pub enum Checked {
     Refused(u32),
-    Accepted(Header),
+    Accepted(Summary),
 }
 
 // What one pass over the records finds.
-pub struct Survey {
+struct Survey {
     pub known: bool,
     pub zeros: bool,
     pub writes: u32,
@@ -39,7 +39,9 @@ pub struct Record {
     pub kind: u16,
 }
 
-const RECORD_LIMIT: u32 = 8000;
+pub const EDITION: u16 = 1;
+
+pub const RECORD_LIMIT: usize = 8000;
 
 // Whether s begins with the four bytes of m.
 fn begins_with(s: &[u8], m: &[u8; 4]) -> bool
@@ -88,19 +90,19 @@ fn settings_at(s: &[u8], order: Order) -> Settings
 }
 
 // Refusals 3 to 5.
-fn layout_of(s: &[u8], order: Order) -> u32
+fn layout_refusal(s: &[u8], order: Order) -> u32
     requires { ⌜ 48 ≤ length (now s) ⌝ }
-    ensures { λ r. ⌜ r ≡ layoutOf order (now (s .entry)) ⌝ }
+    ensures { λ r. ⌜ r ≡ layoutRefusal order (now (s .entry)) ⌝ }
 {
     let edition = word::get16(s, 4, order);
-    let n = word::get32(s, 8, order);
+    let n = word::get32(s, 8, order) as usize;
     let offset = word::get32(s, 12, order);
     let long = word::get32(s, 20, order);
-    let size = 48 + 8 * (n as usize);
+    let size = 48 + 8 * n;
     let lengths = (offset == 48) & ((long as usize == size) & (s.len() == size));
     let lengths_right = demanded(lengths, refusal::WRONG_LENGTH, 0);
     let few = demanded(n <= RECORD_LIMIT, refusal::TOO_MANY, lengths_right);
-    demanded(edition == 1, refusal::OTHER_EDITION, few)
+    demanded(edition == EDITION, refusal::OTHER_EDITION, few)
 }
 
 // 1 for a write.
@@ -139,9 +141,9 @@ fn survey_of(s: &[u8], order: Order, n: usize) -> Survey
 }
 
 // Refusals 6 to 8, of a trace whose lengths are right.
-fn content_of(s: &[u8], order: Order) -> u32
+fn content_refusal(s: &[u8], order: Order) -> u32
     requires { ⌜ (countAt order (now s) ≤ recordLimit) × (length (now s) ≡ fileLength (countAt order (now s))) ⌝ }
-    ensures { λ r. ⌜ r ≡ contentOf order (now (s .entry)) ⌝ }
+    ensures { λ r. ⌜ r ≡ contentRefusal order (now (s .entry)) ⌝ }
 {
     let n = word::get32(s, 8, order);
     let writes = word::get32(s, 16, order);
@@ -163,18 +165,18 @@ fn refusal_in(s: &[u8], order: Order) -> u32
     requires { ⌜ 48 ≤ length (now s) ⌝ }
     ensures { λ r. ⌜ r ≡ refusalIn order (now (s .entry)) ⌝ }
 {
-    let r = layout_of(s, order);
-    if r == 0 { content_of(s, order) } else { r }
+    let r = layout_refusal(s, order);
+    if r == 0 { content_refusal(s, order) } else { r }
 }
 
 fn checked_in(s: &[u8], order: Order) -> Checked
     requires { ⌜ 48 ≤ length (now s) ⌝ }
-    ensures { λ r. ⌜ r ≡ checked (decoded (refusalIn order (now (s .entry))) (traceAt order (now (s .entry)))) ⌝ }
+    ensures { λ r. ⌜ r ≡ checked (outcome (refusalIn order (now (s .entry))) (traceAt order (now (s .entry)))) ⌝ }
 {
     let r = refusal_in(s, order);
     if r == 0 {
         let t = settings_at(s, order);
-        Checked::Accepted(Header {
+        Checked::Accepted(Summary {
             settings: t,
             order: order,
             count: word::get32(s, 8, order),
@@ -187,6 +189,7 @@ fn checked_in(s: &[u8], order: Order) -> Checked
 // A trace's settings, order and record count, or its first refusal.
 pub fn check(bytes: &[u8]) -> Checked
     ensures { λ r. ⌜ r ≡ checkOf (now (bytes .entry)) ⌝ }
+    ensures { λ r. ⌜ Promises (now (bytes .entry)) r ⌝ }
 {
     if bytes.len() < 48 {
         return Checked::Refused(refusal::TOO_SHORT);
@@ -199,11 +202,11 @@ pub fn check(bytes: &[u8]) -> Checked
 }
 
 // Record i of an accepted trace.
-pub fn record_at(bytes: &[u8], header: Header, i: usize) -> Record
-    requires { ⌜ (checkOf (now bytes) ≡ Checked.Accepted header) × (i < header .count) ⌝ }
+pub fn record_at(bytes: &[u8], summary: Summary, i: usize) -> Record
+    requires { ⌜ (checkOf (now bytes) ≡ Checked.Accepted summary) × (i < summary .count) ⌝ }
     ensures { λ r. ⌜ r ≡ recordOf (traceOf (now (bytes .entry))) i ⌝ }
 {
-    let order = header.order;
+    let order = summary.order;
     let at = 48 + 8 * i;
     Record {
         page: word::get32(bytes, at, order),
@@ -212,38 +215,38 @@ pub fn record_at(bytes: &[u8], header: Header, i: usize) -> Record
 }
 
 // How many records of an accepted trace are writes.
-pub fn writes(bytes: &[u8], header: Header) -> u32
-    requires { ⌜ checkOf (now bytes) ≡ Checked.Accepted header ⌝ }
+pub fn writes(bytes: &[u8], summary: Summary) -> u32
+    requires { ⌜ checkOf (now bytes) ≡ Checked.Accepted summary ⌝ }
     ensures { λ r. ⌜ r ≡ writesIn (traceOf (now (bytes .entry)) .kinds) ⌝ }
 {
-    let order = header.order;
+    let order = summary.order;
     word::get32(bytes, 16, order)
 }
 
 // The pages and kinds of an accepted trace, at the front of two lent lists.
-fn read_records(bytes: &[u8], header: Header, pages: &mut [u32], kinds: &mut [u16])
-    requires { ⌜ (checkOf (now bytes) ≡ Checked.Accepted header) × (header .count ≤ length (now pages)) × (header .count ≤ length (now kinds)) ⌝ }
+fn read_records(bytes: &[u8], summary: Summary, pages: &mut [u32], kinds: &mut [u16])
+    requires { ⌜ (checkOf (now bytes) ≡ Checked.Accepted summary) × (summary .count ≤ length (now pages)) × (summary .count ≤ length (now kinds)) ⌝ }
     ensures { λ _. ⌜ now (pages .exit) ≡ sets (now (pages .entry)) 0 (traceOf (now (bytes .entry)) .pages) ⌝ }
     ensures { λ _. ⌜ now (kinds .exit) ≡ sets (now (kinds .entry)) 0 (traceOf (now (bytes .entry)) .kinds) ⌝ }
 {
-    let n = header.count as usize;
+    let n = summary.count as usize;
     let mut i: usize = 0;
     while i < n {
-        let record = record_at(bytes, header, i);
+        let record = record_at(bytes, summary, i);
         pages[i] = record.page;
         kinds[i] = record.kind;
         i += 1;
     }
 }
 
-fn read_accepted(bytes: &[u8], header: Header, pages: &mut [u32], kinds: &mut [u16]) -> Checked
-    requires { ⌜ checkOf (now bytes) ≡ Checked.Accepted header ⌝ }
+fn read_accepted(bytes: &[u8], summary: Summary, pages: &mut [u32], kinds: &mut [u16]) -> Checked
+    requires { ⌜ checkOf (now bytes) ≡ Checked.Accepted summary ⌝ }
     ensures { λ r. ⌜ ReadInto (now (bytes .entry)) (now (pages .entry)) (now (kinds .entry)) r (now (pages .exit)) (now (kinds .exit)) ⌝ }
 {
-    let n = header.count as usize;
+    let n = summary.count as usize;
     if (n <= pages.len()) & (n <= kinds.len()) {
-        read_records(bytes, header, pages, kinds);
-        return Checked::Accepted(header);
+        read_records(bytes, summary, pages, kinds);
+        return Checked::Accepted(summary);
     }
     Checked::Refused(refusal::NO_ROOM)
 }
@@ -256,6 +259,6 @@ pub fn read(bytes: &[u8], pages: &mut [u32], kinds: &mut [u16]) -> Checked
     let c = check(bytes);
     match c {
         Checked::Refused(r) => Checked::Refused(r),
-        Checked::Accepted(header) => read_accepted(bytes, header, pages, kinds),
+        Checked::Accepted(summary) => read_accepted(bytes, summary, pages, kinds),
     }
 }

@@ -1,5 +1,6 @@
 // Hands each case of a bundle on standard input to the checker, the reader, the writer or the converter, and prints a line
 // with the answer and digests of all lent memory. traces/make writes the bundle, says how it is laid out, and knows the lines.
+ghost use mathlib.Core.Path.{_≡_};
 ghost use Prim.Native.Nat.{_+_, _*_, _≤_, _<_};
 ghost use lib.ListN.{length};
 use lines::say;
@@ -83,14 +84,33 @@ fn digest_kinds(s: &[u16; 8001]) -> u64 {
     h
 }
 
+// Memory to lend, the same at each case.
+fn bytes_to_lend() -> [u8; 64064]
+    ensures { λ r. ⌜ 64064 ≡ length r ⌝ }
+{
+    [165u8; 64064]
+}
+
+fn pages_to_lend() -> [u32; 8001]
+    ensures { λ r. ⌜ 8001 ≡ length r ⌝ }
+{
+    [7u32; 8001]
+}
+
+fn kinds_to_lend() -> [u16; 8001]
+    ensures { λ r. ⌜ 8001 ≡ length r ⌝ }
+{
+    [7u16; 8001]
+}
+
 fn try_check(body: &[u8]) {
     say(b"check");
     say_checked(trace::check(body));
 }
 
 fn try_read(body: &[u8], pages_room: usize, kinds_room: usize) {
-    let mut pages = [7u32; 8001];
-    let mut kinds = [7u16; 8001];
+    let mut pages = pages_to_lend();
+    let mut kinds = kinds_to_lend();
     if pages_room <= 8001 {
         if kinds_room <= 8001 {
             say(b"read");
@@ -102,7 +122,7 @@ fn try_read(body: &[u8], pages_room: usize, kinds_room: usize) {
 }
 
 fn try_convert(body: &[u8], room: usize) {
-    let mut out = [165u8; 64064];
+    let mut out = bytes_to_lend();
     if room <= 64064 {
         say(b"convert");
         say_number(scribe::convert(body, &mut out[0..room]) as u64);
@@ -151,27 +171,26 @@ fn order_of(number: u16) -> Order {
     if number == 0 { Order::High } else { Order::Low }
 }
 
+// A write case's settings and order, with its lists.
+fn write_lists(body: &[u8], pages: &[u32], kinds: &[u16], out: &mut [u8]) -> u32
+    requires { ⌜ 32 ≤ length (now body) ⌝ }
+{
+    let settings = take_settings(body);
+    let order = order_of(word::get16(body, 20, Order::High));
+    scribe::write(settings, order, pages, kinds, out)
+}
+
 // A write case of p pages and k kinds, all there.
 fn try_lists(body: &[u8], p: usize, k: usize, room: usize)
     requires { ⌜ (32 + 4 * p + 2 * k ≤ length (now body)) × (p ≤ 8001) × (k ≤ 8001) × (room ≤ 64064) ⌝ }
 {
-    let mut pages = [0u32; 8001];
-    let mut kinds = [0u16; 8001];
-    let mut out = [165u8; 64064];
+    let mut pages = pages_to_lend();
+    let mut kinds = kinds_to_lend();
+    let mut out = bytes_to_lend();
     take_pages(body, 32, p, &mut pages);
     take_kinds(body, 32 + 4 * p, k, &mut kinds);
-    let settings = take_settings(body);
-    let order = order_of(word::get16(body, 20, Order::High));
     say(b"write");
-    say_number(
-        scribe::write(
-            settings,
-            order,
-            &pages[0..p],
-            &kinds[0..k],
-            &mut out[0..room],
-        ) as u64,
-    );
+    say_number(write_lists(body, &pages[0..p], &kinds[0..k], &mut out[0..room]) as u64);
     say_number(digest_bytes(&out));
 }
 
@@ -225,7 +244,7 @@ fn next_case(body: &mut [u8]) -> bool {
 }
 
 fn main() {
-    let mut space = [0u8; 64064];
+    let mut space = bytes_to_lend();
     let body: &mut [u8] = &mut space;
     let mut turns: u32 = 0;
     while turns < 1000 {

@@ -7,7 +7,7 @@ use native.Mathlib.Numerals.{add-one}
 use native.Mathlib.Omega.{arith}
 use lib.ListN.{length, getD, take, drop, set, length-drop, length-reverse}
 use lib.Seq.{drop-cons, sets, sets-eq, take-at, length-take-le}
-use Rattle.word.specs.Number.{numberLow, numberOf, bytesLow, bytesOf, numberAt, Bytes}
+use Rattle.word.specs.Number.{numberLow, numberOf, bytesLow, bytesOf, numberAt}
 use Rattle.word.specs.declared.Order.{Order}
 use Rattle.word.specs.declared.Order.the-variants.{High, Low}
 
@@ -36,12 +36,10 @@ part (suc w) at s h =
     let h′ : at + 1 + w ≤ length s = omega arith in
     rw (drop-cons s at 0 lt, ← add-one at) (ap (λ (l : List ℕ). getD s at 0 ∷ l) (part-later w s at 1 h′))
 
--- the code's places, as `sets` has them
-pub two : (n : ℕ) → n + 2 ≡ suc (suc n)
-two n = omega arith
-
-pub three : (n : ℕ) → n + 3 ≡ suc (suc (suc n))
-three n = omega arith
+-- each element is a byte
+abbrev pub Bytes : List ℕ → Type 0
+Bytes [] = Unit {0}
+Bytes (b ∷ bs) = (b < 256) × Bytes bs
 
 -- ---- reading what was written, and writing what was read: once over the width, and over the order by the reverse
 
@@ -102,7 +100,7 @@ length-bytes High w v = length-reverse (bytesLow w v) ∙ length-low w v
 length-bytes Low w v = length-low w v
 
 -- a run of stores after another is one run
-pub sets-more : (xs ys l : List ℕ) (i j : ℕ) → j ≡ i + length xs → sets (sets l i xs) j ys ≡ sets l i (xs ++ ys)
+sets-more : (xs ys l : List ℕ) (i j : ℕ) → j ≡ i + length xs → sets (sets l i xs) j ys ≡ sets l i (xs ++ ys)
 sets-more [] ys l i j e = let e′ : j ≡ i = omega arith in rw e′
 sets-more (x ∷ xs) ys l i j e = sets-more xs ys (set l i x) (suc i) j (omega arith)
 

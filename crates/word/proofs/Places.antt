@@ -5,9 +5,9 @@ use Prim.Native.Nat.{ℕ, _+_, _^_, _≤_, _<_}
 use native.Mathlib.Omega.{arith}
 use lib.ListN.{length, take, drop, length-drop, take-append-drop}
 use lib.Seq.{sets, sets-eq, length-take-le, take-at, drop-at, drop-drop}
-use Rattle.word.specs.Number.{numberAt, bytesOf, Bytes}
+use Rattle.word.specs.Number.{numberAt, bytesOf}
+use Rattle.word.proofs.Laws.{Bytes, number-back, bytes-again, length-bytes, bytes-take, bytes-drop}
 use Rattle.word.specs.declared.Order.{Order}
-use Rattle.word.proofs.Laws.{number-back, bytes-again, length-bytes, bytes-take, bytes-drop}
 
 module _ (o : Order) (w at : ℕ) (l : List ℕ) (h : at + w ≤ length l) where
   -- reading what was written gives the number

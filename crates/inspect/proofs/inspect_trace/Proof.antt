@@ -4,7 +4,7 @@ use Rattle.inspect.proofs.inspect_trace.Statement.{statement}
 use Rattle.inspect.proofs.inspect_trace.Tie as tie
 
 writes-requires : tie.Need-writes-requires
-writes-requires c κs = sym (c .before .before .before .check .ensures) ∙ c .before .c2 .given .1
+writes-requires c κs = sym (c .before .before .before .check .ensures .0) ∙ c .before .c2 .given .1
 
 pub inspect-trace-spec : {M : Type 1} → statement M
 inspect-trace-spec =

@@ -1,8 +1,7 @@
 use mathlib.Core.Path.{sym, _∙_}
 use native.Mathlib.Omega.{arith}
 use denote.Ref.{now}
-use Rattle.word.specs.Number.{Bytes}
-use Rattle.word.proofs.Laws.{bytes-of}
+use Rattle.word.proofs.Laws.{Bytes, bytes-of}
 use Rattle.scribe.proofs.Converting.{convert-refused, converts-back}
 use borrow.Author.Needs.{needs}
 use Rattle.scribe.proofs.convert.Statement.{statement}
@@ -11,7 +10,7 @@ use Rattle.scribe.proofs.convert.Tie as tie
 convert-accepted-requires : tie.Need-convert-accepted-requires
 convert-accepted-requires c κs =
     let m = c .before .before in
-    sym (m .before .before .check .ensures) ∙ m .c2 .given .1
+    sym (m .before .before .check .ensures .0) ∙ m .c2 .given .1
 
 returns : tie.Need-returns
 returns c =
@@ -20,7 +19,7 @@ returns c =
     let s = now (g .before .args .bytes) in
     let out = now (g .before .args .out) in
     let bs : Bytes s = bytes-of s (λ i. let f = g .shared-slice-known .given i in omega arith) in
-    let r = convert-refused s out _ (sym (k .check .ensures) ∙ c .before .c .given .1) in
+    let r = convert-refused s out _ (sym (k .check .ensures .0) ∙ c .before .c .given .1) in
     (r, converts-back s out _ _ bs r)
 
 returns-2 : tie.Need-returns-2

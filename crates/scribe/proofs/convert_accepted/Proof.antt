@@ -9,12 +9,12 @@ use Rattle.scribe.proofs.convert_accepted.Tie as tie
 returns : tie.Need-returns
 returns c =
     let b = c .before .before .before in
-    convert-no-room (now (b .args .bytes)) (b .args .header) (now (b .args .out)) (b .pre) (c .if1 .taken)
+    convert-no-room (now (b .args .bytes)) (b .args .summary) (now (b .args .out)) (b .pre) (c .if1 .taken)
 
 put-header-requires : tie.Need-put-header-requires
 put-header-requires c κs =
     let b = c .before .before .before .before .before .before .before in
-    let p = accepted-passed (now (b .args .bytes)) (b .args .header) (b .pre) in
+    let p = accepted-passed (now (b .args .bytes)) (b .args .summary) (b .pre) in
     let long = p .0 .laid .long in
     let few = p .0 .laid .few in
     let n = p .1 in
@@ -28,8 +28,8 @@ returns-2 c =
     let o = w .before .before in
     let b = o .before .before .before .before in
     let s = now (b .args .bytes) in
-    let held = convert-stores s (b .args .header) (o .other-order .result) (w .writes .result) (now (b .args .out)) _ _ (b .pre) (o .other-order .ensures) (w .writes .ensures) (h .put-header .ensures) (r .convert-records .ensures) in
-    convert-whole s (b .args .header) (now (b .args .out)) _ (b .pre) (omega arith) held
+    let held = convert-stores s (b .args .summary) (o .other-order .result) (w .writes .result) (now (b .args .out)) _ _ (b .pre) (o .other-order .ensures) (w .writes .ensures) (h .put-header .ensures) (r .convert-records .ensures) in
+    convert-whole s (b .args .summary) (now (b .args .out)) _ (b .pre) (omega arith) held
 
 pub convert-accepted-spec : {M : Type 1} → statement M
 convert-accepted-spec = tie.close

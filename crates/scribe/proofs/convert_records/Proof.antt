@@ -13,11 +13,11 @@ use Rattle.scribe.proofs.convert_records.Statement.{statement}
 use Rattle.scribe.proofs.convert_records.Tie as tie
 
 abbrev Inv-loop : tie.InvT-loop
-Inv-loop bytes header order out₀ n i₀ out i =
+Inv-loop bytes summary order out₀ n i₀ out i =
     (i ≤ n) × (length out ≡ length out₀) × (out ≡ sets out₀ 48 (recordsTo order (traceOf bytes .pages) (traceOf bytes .kinds) i))
 
 abbrev μ-loop : tie.MeasureT-loop
-μ-loop bytes header order out₀ n i₀ out i = n - i
+μ-loop bytes summary order out₀ n i₀ out i = n - i
 
 loop-holds : tie.Need-loop-holds Inv-loop μ-loop
 loop-holds c = (omega arith, refl, refl)
@@ -26,7 +26,7 @@ put-record-requires : tie.Need-put-record-requires Inv-loop μ-loop
 put-record-requires c κs =
     let l = c .before .before .before in
     let b = l .before .before .before .before in
-    let h = record-within (now (b .args .bytes)) (b .args .header) (l .loop .i) (b .pre .0) (c .before .before .loop-test .taken) in
+    let h = record-within (now (b .args .bytes)) (b .args .summary) (l .loop .i) (b .pre .0) (c .before .before .loop-test .taken) in
     omega arith
 
 loop-again : tie.Need-loop-again Inv-loop μ-loop
@@ -44,7 +44,7 @@ loop-again c =
 
 returns : tie.Need-returns Inv-loop μ-loop
 returns c =
-    let e : c .before .loop .i ≡ c .before .before .before .before .before .args .header .count = omega arith in
+    let e : c .before .loop .i ≡ c .before .before .before .before .before .args .summary .count = omega arith in
     rw (← e) (c .before .loop .inv .2)
 
 pub convert-records-spec : {M : Type 1} → statement M

@@ -1,13 +1,11 @@
 use lib.ListN.{length-append}
 use Rattle.word.proofs.Laws.{sets-append, length-bytes}
-use Rattle.trace.specs.Encode.{countBytes}
 use Rattle.trace.proofs.Sizes.{length-mark}
 use borrow.Author.Needs.{needs}
 use Rattle.scribe.proofs.put_counts.Statement.{statement}
 use Rattle.scribe.proofs.put_counts.Tie as tie
 
 returns : tie.Need-returns
-unfolding countBytes
 returns c =
     let c7 = c .before .before in
     let c6 = c7 .before .before .before .before in

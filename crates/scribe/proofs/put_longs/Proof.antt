@@ -1,12 +1,10 @@
 use lib.ListN.{length-append}
 use Rattle.word.proofs.Laws.{sets-append, length-bytes}
-use Rattle.trace.specs.Encode.{longBytes}
 use borrow.Author.Needs.{needs}
 use Rattle.scribe.proofs.put_longs.Statement.{statement}
 use Rattle.scribe.proofs.put_longs.Tie as tie
 
 returns : tie.Need-returns
-unfolding longBytes
 returns c =
     let c3 = c .before .before in
     let c2 = c3 .before .before .before .before in

@@ -1,12 +1,10 @@
 use lib.ListN.{length-append}
 use Rattle.word.proofs.Laws.{sets-append, length-bytes}
-use Rattle.trace.specs.Encode.{shortBytes}
 use borrow.Author.Needs.{needs}
 use Rattle.scribe.proofs.put_shorts.Statement.{statement}
 use Rattle.scribe.proofs.put_shorts.Tie as tie
 
 returns : tie.Need-returns
-unfolding shortBytes
 returns c =
     let c6 = c .before .before in
     let c5 = c6 .before .before .before .before in

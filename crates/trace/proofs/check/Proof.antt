@@ -1,21 +1,39 @@
+use native.Mathlib.Omega.{arith}
+use denote.Ref.{now}
 use borrow.Author.Tests.{lt-leb, le-leb}
+use Rattle.word.proofs.Laws.{Bytes, bytes-of}
 use Rattle.trace.specs.Check.{checkOf, decode, refusalOf, traceOf}
+use Rattle.trace.proofs.Promise.{with-promise}
 use borrow.Author.Needs.{needs}
 use Rattle.trace.proofs.check.Statement.{statement}
 use Rattle.trace.proofs.check.Tie as tie
 
 returns : tie.Need-returns
 unfolding checkOf decode refusalOf
-returns c = simp (lt-leb _ _ (c .if1 .taken))
+returns c =
+    let g = c .before in
+    let s = now (g .before .args .bytes) in
+    let bs : Bytes s = bytes-of s (λ i. let f = g .shared-slice-known .given i in omega arith) in
+    with-promise s _ bs (simp (lt-leb _ _ (c .if1 .taken)))
 
 returns-2 : tie.Need-returns-2
 unfolding checkOf decode refusalOf traceOf
 returns-2 c =
-    rw (le-leb _ _ (c .before .before .before .before .before .if1 .left), ← c .before .before .before .before .mark-of .ensures, c .before .before .m .given .1) (c .checked-in .ensures)
+    let m = c .before .before in
+    let f = m .before .before .before in
+    let g = f .before in
+    let s = now (g .before .args .bytes) in
+    let bs : Bytes s = bytes-of s (λ i. let f = g .shared-slice-known .given i in omega arith) in
+    with-promise s _ bs (rw (le-leb _ _ (f .if1 .left), ← m .before .before .mark-of .ensures, m .m .given .1) (c .checked-in .ensures))
 
 returns-3 : tie.Need-returns-3
 unfolding checkOf decode refusalOf traceOf
-returns-3 c = rw (le-leb _ _ (c .before .before .before .if1 .left), ← c .before .before .mark-of .ensures, c .enum-told .given .1)
+returns-3 c =
+    let f = c .before .before .before in
+    let g = f .before in
+    let s = now (g .before .args .bytes) in
+    let bs : Bytes s = bytes-of s (λ i. let f = g .shared-slice-known .given i in omega arith) in
+    with-promise s _ bs (rw (le-leb _ _ (f .if1 .left), ← c .before .before .mark-of .ensures, c .enum-told .given .1))
 
 pub check-spec : {M : Type 1} → statement M
 check-spec =

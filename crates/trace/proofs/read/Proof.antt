@@ -1,8 +1,7 @@
 use mathlib.Core.Path.{sym, _∙_}
 use native.Mathlib.Omega.{arith}
 use denote.Ref.{now}
-use Rattle.word.specs.Number.{Bytes}
-use Rattle.word.proofs.Laws.{bytes-of}
+use Rattle.word.proofs.Laws.{Bytes, bytes-of}
 use Rattle.trace.proofs.Reading.{read-refused, writes-again}
 use borrow.Author.Needs.{needs}
 use Rattle.trace.proofs.read.Statement.{statement}
@@ -11,7 +10,7 @@ use Rattle.trace.proofs.read.Tie as tie
 read-accepted-requires : tie.Need-read-accepted-requires
 read-accepted-requires c κs =
     let m = c .before .before .before in
-    sym (m .before .before .check .ensures) ∙ m .c2 .given .1
+    sym (m .before .before .check .ensures .0) ∙ m .c2 .given .1
 
 returns : tie.Need-returns
 returns c =
@@ -19,7 +18,7 @@ returns c =
     let b = k .before .before .before .before in
     let s = now (b .args .bytes) in
     let bs : Bytes s = bytes-of s (λ i. let f = k .before .before .before .shared-slice-known .given i in omega arith) in
-    let r = read-refused s (now (b .args .pages)) (now (b .args .kinds)) _ (sym (k .check .ensures) ∙ c .before .c .given .1) in
+    let r = read-refused s (now (b .args .pages)) (now (b .args .kinds)) _ (sym (k .check .ensures .0) ∙ c .before .c .given .1) in
     (r, writes-again s (now (b .args .pages)) (now (b .args .kinds)) _ _ _ bs r)
 
 returns-2 : tie.Need-returns-2

@@ -14,13 +14,13 @@ use Rattle.trace.proofs.read_records.Statement.{statement}
 use Rattle.trace.proofs.read_records.Tie as tie
 
 abbrev Inv-loop : tie.InvT-loop
-Inv-loop bytes header pages₀ kinds₀ n i₀ pages kinds i =
+Inv-loop bytes summary pages₀ kinds₀ n i₀ pages kinds i =
     (i ≤ n) × (length pages ≡ length pages₀) × (length kinds ≡ length kinds₀)
     × (pages ≡ sets pages₀ 0 (upTo (λ (j : ℕ). recordOf (traceOf bytes) j .page) i))
     × (kinds ≡ sets kinds₀ 0 (upTo (λ (j : ℕ). recordOf (traceOf bytes) j .kind) i))
 
 abbrev μ-loop : tie.MeasureT-loop
-μ-loop bytes header pages₀ kinds₀ n i₀ pages kinds i = n - i
+μ-loop bytes summary pages₀ kinds₀ n i₀ pages kinds i = n - i
 
 loop-holds : tie.Need-loop-holds Inv-loop μ-loop
 loop-holds c = (omega arith, refl, refl, refl, refl)
@@ -44,8 +44,8 @@ returns c =
     let l = c .before in
     let b = l .before .before .before .before .before in
     let t = traceOf (now (b .args .bytes)) in
-    let n = counts-are (now (b .args .bytes)) (b .args .header) (b .pre .0) in
-    let e : l .loop .i ≡ b .args .header .count = omega arith in
+    let n = counts-are (now (b .args .bytes)) (b .args .summary) (b .pre .0) in
+    let e : l .loop .i ≡ b .args .summary .count = omega arith in
     let p = upTo-is (λ (j : ℕ). recordOf t j .page) (t .pages) (λ i lt. refl) in
     let k = upTo-is (λ (j : ℕ). recordOf t j .kind) (t .kinds) (λ i lt. refl) in
     (l .loop .inv .3 ∙ rw (e, ← n .0, p), l .loop .inv .4 ∙ rw (e, ← n .1, k))

@@ -6,19 +6,19 @@ use borrow.Author.Needs.{needs}
 use Rattle.trace.proofs.refusal_in.Statement.{statement}
 use Rattle.trace.proofs.refusal_in.Tie as tie
 
-content-of-requires : tie.Need-content-of-requires
-content-of-requires c κs =
-    let h = laid-out _ _ (sym (c .before .layout-of .ensures) ∙ c .if1 .taken) in
+content-refusal-requires : tie.Need-content-refusal-requires
+content-refusal-requires c κs =
+    let h = laid-out _ _ (sym (c .before .layout-refusal .ensures) ∙ c .if1 .taken) in
     (h .few, h .long)
 
 returns : tie.Need-returns
 unfolding refusalIn
-returns c = rw (sym (c .before .before .layout-of .ensures) ∙ c .before .if1 .taken) (c .content-of .ensures)
+returns c = rw (sym (c .before .before .layout-refusal .ensures) ∙ c .before .if1 .taken) (c .content-refusal .ensures)
 
 returns-2 : tie.Need-returns-2
 unfolding refusalIn
-returns-2 c = rw (← c .before .layout-of .ensures) (or-first _ _ (c .if1 .left))
+returns-2 c = rw (← c .before .layout-refusal .ensures) (or-first _ _ (c .if1 .left))
 
 pub refusal-in-spec : {M : Type 1} → statement M
 refusal-in-spec = tie.close
-    (tie.spec (search needs) content-of-requires returns returns-2)
+    (tie.spec (search needs) content-refusal-requires returns returns-2)

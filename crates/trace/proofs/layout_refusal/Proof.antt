@@ -1,10 +1,10 @@
-use Rattle.trace.specs.Check.{layoutOf}
+use Rattle.trace.specs.Check.{layoutRefusal}
 use borrow.Author.Needs.{needs}
-use Rattle.trace.proofs.layout_of.Statement.{statement}
-use Rattle.trace.proofs.layout_of.Tie as tie
+use Rattle.trace.proofs.layout_refusal.Statement.{statement}
+use Rattle.trace.proofs.layout_refusal.Tie as tie
 
 returns : tie.Need-returns
-unfolding layoutOf
+unfolding layoutRefusal
 returns c =
     rw (
       c .demanded3 .ensures,
@@ -16,8 +16,8 @@ returns c =
       c .before .before .before .before .before .before .get16 .ensures,
     )
 
-pub layout-of-spec : {M : Type 1} → statement M
-layout-of-spec =
+pub layout-refusal-spec : {M : Type 1} → statement M
+layout-refusal-spec =
     tie.close
     (tie.spec (search needs) (search needs) (search needs) (search needs) (search needs) (search needs) (search needs)
     (search needs) (search needs) (search needs) (search needs) returns)

@@ -1,10 +1,10 @@
-use Rattle.trace.specs.Check.{contentOf}
+use Rattle.trace.specs.Check.{contentRefusal}
 use borrow.Author.Needs.{needs}
-use Rattle.trace.proofs.content_of.Statement.{statement}
-use Rattle.trace.proofs.content_of.Tie as tie
+use Rattle.trace.proofs.content_refusal.Statement.{statement}
+use Rattle.trace.proofs.content_refusal.Tie as tie
 
 returns : tie.Need-returns
-unfolding contentOf
+unfolding contentRefusal
 returns c =
     rw (
       c .demanded3 .ensures,
@@ -21,8 +21,8 @@ returns c =
       c .before .before .before .before .before .before .before .before .before .before .before .before .get32 .ensures,
     )
 
-pub content-of-spec : {M : Type 1} → statement M
-content-of-spec =
+pub content-refusal-spec : {M : Type 1} → statement M
+content-refusal-spec =
     tie.close
     (tie.spec (search needs) (search needs) (search needs) (search needs) (search needs) (search needs) (search needs)
     (search needs) (search needs) (search needs) (search needs) returns)
