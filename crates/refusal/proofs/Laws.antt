@@ -1,14 +1,14 @@
 -- Laws of demands: what is known where nothing was refused.
 use mathlib.Core.Path.{_≡_, refl}
 use mathlib.Core.Bool.{Bool, true, false}
-use Prim.Native.Nat.{ℕ, zero, suc}
+use Prim.Native.Nat.{ℕ, zero, suc, _<_}
 use native.Mathlib.Omega.{arith}
 use Rattle.refusal.specs.Refusals.{demand, orElse}
 
 -- a demand that refuses nothing was met, and what follows refuses nothing
-pub met : (b : Bool) (k after : ℕ) → demand b (suc k) after ≡ 0 → (b ≡ true) × (after ≡ 0)
-met true k after h = (refl, h)
-met false k after h = absurd (omega arith)
+pub met : (b : Bool) (refusal after : ℕ) → 0 < refusal → demand b refusal after ≡ 0 → (b ≡ true) × (after ≡ 0)
+met true refusal after some h = (refl, h)
+met false refusal after some h = absurd (omega arith)
 
 -- a first refusal is the answer
 pub or-first : (a b : ℕ) → (a ≡ 0 → ⊥) → a ≡ orElse a b

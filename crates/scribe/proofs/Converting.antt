@@ -2,6 +2,7 @@
 use mathlib.Core.Path.{_≡_, refl, sym, _∙_}
 use mathlib.Core.List.{List}
 use Prim.Native.Nat.{ℕ, _≤_, _<_}
+use native.Mathlib.Omega.{arith}
 use lib.ListN.{length, take}
 use lib.Seq.{sets}
 use lib.Dec.{leb}
@@ -81,7 +82,7 @@ unfolding convertRefusal
 converts-back s out r out′ bs c e =
     let none = sym (c .answers) ∙ e in
     let n = neither (refusalOf s) (demand (leb (length s) (length out)) noRoom 0) none in
-    let fits = leb-true (length s) (length out) (met (leb (length s) (length out)) 12 0 (n .1) .0) in
+    let fits = leb-true (length s) (length out) (met (leb (length s) (length out)) noRoom 0 (omega arith) (n .1) .0) in
     let f : take (length s) out′ ≡ converted (traceOf s) =
     rw (c .bytes-hold, none) (sets-front out (converted (traceOf s)) (length s) (length-converted s bs (n .0)) fits) in
     (rw f (decode-converted s bs (n .0)), convert-twice s bs (n .0))

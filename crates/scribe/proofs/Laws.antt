@@ -4,6 +4,7 @@ use mathlib.Core.List.{List, _++_}
 use mathlib.Core.Bool.{_&&_, and-eq-true-iff}
 use Prim.Native.Nat.{ℕ, _+_, _*_, _≤_, _<_}
 use native.Mathlib.Numerals.{add-one}
+use native.Mathlib.Omega.{arith}
 use lib.ListN.{length, getD, take, length-append}
 use lib.Seq.{sets, take-suc}
 use lib.Dec.{eqb, leb}
@@ -11,7 +12,7 @@ use borrow.Author.Tests.{leb-true, eqb-true, le-leb, eq-eqb}
 use Rattle.word.specs.declared.Order.{Order}
 use Rattle.word.specs.Number.{bytesOf}
 use Rattle.word.proofs.Laws.{sets-append, length-bytes}
-use Rattle.refusal.specs.Refusals.{demand}
+use Rattle.refusal.specs.Refusals.{demand, badField, noRoom, outOfRange, tooMany, wrongLength}
 use Rattle.refusal.proofs.Laws.{met}
 use Rattle.settings.specs.Settings.{inRange}
 use Rattle.settings.specs.declared.Settings.{Settings}
@@ -49,15 +50,15 @@ unfolding writeRefusal
 granted t room seed page h =
     let p = length (t .pages) in
     let k = length (t .kinds) in
-    let size = demand (leb (fileLength p) room) 13 0 in
-    let range = demand (inRange (t .settings)) 8 size in
-    let known = demand (knownKinds (t .kinds)) 6 range in
-    let same = demand (eqb p k) 5 known in
-    let h4 = met (leb p recordLimit && leb k recordLimit) 3 same h in
-    let h5 = met (eqb p k) 4 known (h4 .1) in
-    let h6 = met (knownKinds (t .kinds)) 5 range (h5 .1) in
-    let h8 = met (inRange (t .settings)) 7 size (h6 .1) in
-    let h13 = met (leb (fileLength p) room) 12 0 (h8 .1) in
+    let size = demand (leb (fileLength p) room) noRoom 0 in
+    let range = demand (inRange (t .settings)) outOfRange size in
+    let known = demand (knownKinds (t .kinds)) badField range in
+    let same = demand (eqb p k) wrongLength known in
+    let h4 = met (leb p recordLimit && leb k recordLimit) tooMany same (omega arith) h in
+    let h5 = met (eqb p k) wrongLength known (omega arith) (h4 .1) in
+    let h6 = met (knownKinds (t .kinds)) badField range (omega arith) (h5 .1) in
+    let h8 = met (inRange (t .settings)) outOfRange size (omega arith) (h6 .1) in
+    let h13 = met (leb (fileLength p) room) noRoom 0 (omega arith) (h8 .1) in
     let few = leb-true p recordLimit (and-eq-true-iff (leb p recordLimit) (leb k recordLimit) .0 (h4 .0) .0) in (
       record { same = eqb-true p k (h5 .0); few = few; known = h6 .0; range = h8 .0; seed = seed; page = page },
       leb-true (fileLength p) room (h13 .0),

@@ -8,7 +8,7 @@ use lib.ListN.{length}
 use lib.Dec.{eqb, leb}
 use borrow.Author.Tests.{eqb-true}
 use Rattle.word.specs.declared.Order.{Order}
-use Rattle.refusal.specs.Refusals.{demand}
+use Rattle.refusal.specs.Refusals.{demand, badField, outOfRange, tooShort, wrongWrites}
 use Rattle.refusal.proofs.Laws.{met, neither}
 use Rattle.settings.specs.Settings.{inRange}
 use Rattle.trace.specs.Layout.{headerLength, fileLength, markOf, firstZeroAt, lastZeroAt, writesAt, countAt, settingsAt, pageAt, kindAt, kindsAt, zerosAt, knownKinds, allZero, writesIn, traceAt, recordOf}
@@ -40,9 +40,9 @@ filled o s h =
     let w = writesIn (kindsAt o s) in
     let t7 = eqb (writesAt o s) w in
     let t8 = inRange (settingsAt o s) in
-    let h6 = met (zerosRight o s && ks) 5 (demand t7 7 (demand t8 8 0)) h in
-    let h7 = met t7 6 (demand t8 8 0) (h6 .1) in
-    let h8 = met t8 7 0 (h7 .1) in
+    let h6 = met (zerosRight o s && ks) badField (demand t7 wrongWrites (demand t8 outOfRange 0)) (omega arith) h in
+    let h7 = met t7 wrongWrites (demand t8 outOfRange 0) (omega arith) (h6 .1) in
+    let h8 = met t8 outOfRange 0 (omega arith) (h7 .1) in
     let b = and-eq-true-iff (zerosRight o s) ks .0 (h6 .0) in
     let z = and-eq-true-iff z1 (z2 && zs) .0 (b .0) in
     let y = and-eq-true-iff z2 zs .0 (z .1) in
@@ -70,7 +70,7 @@ by-mark (Known o) s e h =
 
 pub passed : (s : List ℕ) → refusalOf s ≡ 0 → (o : Order) × Passed o s
 unfolding refusalOf
-passed s h = by-mark (markOf s) s refl (met (leb headerLength (length s)) 0 (refusalMarked (markOf s) s) h .1)
+passed s h = by-mark (markOf s) s refl (met (leb headerLength (length s)) tooShort (refusalMarked (markOf s) s) (omega arith) h .1)
 
 -- the trace of such bytes
 pub trace-is : (o : Order) (s : List ℕ) → markOf s ≡ Known o → traceOf s ≡ traceAt o s

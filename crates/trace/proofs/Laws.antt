@@ -8,7 +8,7 @@ use lib.ListN.{length}
 use lib.Dec.{eqb, leb}
 use borrow.Author.Tests.{leb-true, eqb-true}
 use Rattle.word.specs.declared.Order.{Order}
-use Rattle.refusal.specs.Refusals.{demand}
+use Rattle.refusal.specs.Refusals.{demand, otherEdition, tooMany, wrongLength}
 use Rattle.refusal.proofs.Laws.{met}
 use Rattle.trace.specs.Layout.{Trace, edition, recordLimit, headerLength, fileLength, editionAt, countAt, offsetAt, lengthAt, pageAt, settingsAt, traceAt}
 use Rattle.trace.specs.Check.{layoutRefusal, lengthsRight, outcome, summaryOf, checked, numberOfAnswer, putInto}
@@ -32,9 +32,9 @@ laid-out o s h =
     let off = eqb (offsetAt o s) headerLength in
     let fld = eqb (lengthAt o s) (fileLength n) in
     let len = eqb (length s) (fileLength n) in
-    let h3 = met (eqb (editionAt o s) edition) 2 (demand (leb n recordLimit) 4 (demand (lengthsRight o s) 5 0)) h in
-    let h4 = met (leb n recordLimit) 3 (demand (lengthsRight o s) 5 0) (h3 .1) in
-    let h5 = met (lengthsRight o s) 4 0 (h4 .1) in
+    let h3 = met (eqb (editionAt o s) edition) otherEdition (demand (leb n recordLimit) tooMany (demand (lengthsRight o s) wrongLength 0)) (omega arith) h in
+    let h4 = met (leb n recordLimit) tooMany (demand (lengthsRight o s) wrongLength 0) (omega arith) (h3 .1) in
+    let h5 = met (lengthsRight o s) wrongLength 0 (omega arith) (h4 .1) in
     let b = and-eq-true-iff off (fld && len) .0 (h5 .0) in
     let b′ = and-eq-true-iff fld len .0 (b .1) in
     record {

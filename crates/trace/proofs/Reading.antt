@@ -3,6 +3,7 @@ use mathlib.Core.Path.{_≡_, refl, sym, ap, _∙_}
 use mathlib.Core.List.{List}
 use mathlib.Core.Bool.{Bool, true, false, _&&_, and-eq-true-iff}
 use Prim.Native.Nat.{ℕ, _≤_}
+use native.Mathlib.Omega.{arith}
 use lib.ListN.{length, take}
 use lib.Seq.{sets}
 use lib.Dec.{leb}
@@ -58,7 +59,7 @@ read-grants s pages kinds z =
     let p = leb (length (traceOf s .pages)) pages in
     let k = leb (length (traceOf s .kinds)) kinds in
     let n = neither (refusalOf s) (demand (p && k) noRoom 0) z in
-    let b = and-eq-true-iff p k .0 (met (p && k) 12 0 (n .1) .0) in
+    let b = and-eq-true-iff p k .0 (met (p && k) noRoom 0 (omega arith) (n .1) .0) in
     (n .0, leb-true (length (traceOf s .pages)) pages (b .0), leb-true (length (traceOf s .kinds)) kinds (b .1))
 
 -- what the reader gives has the encoding that was read
