@@ -1,25 +1,23 @@
 -- Laws of the writer and the converter.
 use mathlib.Core.Path.{_≡_}
-use mathlib.Core.List.{List, _++_}
+use mathlib.Core.List.{List}
 use mathlib.Core.Bool.{_&&_, and-eq-true-iff}
 use Prim.Native.Nat.{ℕ, _+_, _*_, _≤_, _<_}
 use native.Mathlib.Numerals.{add-one}
 use native.Mathlib.Omega.{arith}
-use lib.ListN.{length, getD, take, length-append}
+use lib.ListN.{length, getD, take}
 use lib.Seq.{sets, take-suc}
 use lib.Dec.{eqb, leb}
 use borrow.Author.Tests.{leb-true, eqb-true, le-leb, eq-eqb}
 use Rattle.word.specs.declared.Order.{Order}
-use Rattle.word.specs.Number.{bytesOf}
-use Rattle.word.proofs.Laws.{sets-append, length-bytes}
+use Rattle.word.proofs.Laws.{sets-append}
 use Rattle.refusal.specs.Refusals.{demand, badField, noRoom, outOfRange, tooMany, wrongLength}
 use Rattle.refusal.proofs.Laws.{met}
 use Rattle.settings.specs.Settings.{inRange}
-use Rattle.settings.specs.declared.Settings.{Settings}
-use Rattle.trace.specs.Layout.{Trace, edition, recordLimit, headerLength, fileLength, isWrite, knownKind, knownKinds, writesIn}
-use Rattle.trace.specs.Encode.{markBytes, headerBytes, recordBytes, recordsTo, Proper}
+use Rattle.trace.specs.Layout.{Trace, recordLimit, fileLength, isWrite, knownKind, knownKinds, writesIn}
+use Rattle.trace.specs.Encode.{recordBytes, recordsTo, Proper}
 use Rattle.trace.proofs.Lists.{writes-snoc, known-snoc}
-use Rattle.trace.proofs.Sizes.{length-mark, length-records}
+use Rattle.trace.proofs.Sizes.{length-records}
 use Rattle.scribe.specs.Write.{writeRefusal}
 
 -- a turn of the pass over the kinds
@@ -28,14 +26,6 @@ writes-more l i h = rw (add-one, take-suc l i 0 h) (writes-snoc (take i l) (getD
 
 pub known-more : (l : List ℕ) (i : ℕ) → i < length l → knownKinds (take (i + 1) l) ≡ (knownKinds (take i l) && knownKind (getD l i 0))
 known-more l i h = rw (add-one, take-suc l i 0 h) (known-snoc (take i l) (getD l i 0))
-
--- the header in three runs
-pub header-stores : (o : Order) (t : Settings) (n w : ℕ) (out a b c : List ℕ)
-    → a ≡ sets out 0 (markBytes o ++ bytesOf o 2 edition ++ bytesOf o 2 0 ++ bytesOf o 4 n ++ bytesOf o 4 headerLength ++ bytesOf o 4 w ++ bytesOf o 4 (fileLength n))
-    → b ≡ sets a 24 (bytesOf o 2 (t .rule) ++ bytesOf o 2 (t .frames) ++ bytesOf o 2 (t .batch) ++ bytesOf o 2 (t .cap) ++ bytesOf o 2 (t .sample) ++ bytesOf o 2 (t .weight))
-    → c ≡ sets b 36 (bytesOf o 4 (t .epoch) ++ bytesOf o 4 (t .seed) ++ bytesOf o 4 0) → c ≡ sets out 0 (headerBytes o t n w)
-unfolding headerBytes
-header-stores o t n w out a b c x y z = rw (z, y, x) (simp (sets-append, length-append, length-bytes, length-mark))
 
 -- a turn of the loop that writes the records
 pub records-more : (o : Order) (pages kinds out₀ out out′ : List ℕ) (i : ℕ) → out ≡ sets out₀ 48 (recordsTo o pages kinds i)

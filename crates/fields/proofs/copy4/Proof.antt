@@ -1,8 +1,8 @@
 use lib.ListN.{length-set}
 use native.Mathlib.Omega.{arith}
 use borrow.Author.Needs.{needs}
-use Rattle.scribe.proofs.copy4.Statement.{statement}
-use Rattle.scribe.proofs.copy4.Tie as tie
+use Rattle.fields.proofs.copy4.Statement.{statement}
+use Rattle.fields.proofs.copy4.Tie as tie
 
 slice-write-out-2 : tie.Need-slice-write-out-2
 slice-write-out-2 c = simp length-set (omega arith)

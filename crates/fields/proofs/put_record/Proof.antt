@@ -2,8 +2,8 @@ use lib.ListN.{length-append}
 use Rattle.word.proofs.Laws.{sets-append, length-bytes}
 use Rattle.trace.specs.Encode.{recordBytes}
 use borrow.Author.Needs.{needs}
-use Rattle.scribe.proofs.put_record.Statement.{statement}
-use Rattle.scribe.proofs.put_record.Tie as tie
+use Rattle.fields.proofs.put_record.Statement.{statement}
+use Rattle.fields.proofs.put_record.Tie as tie
 
 returns : tie.Need-returns
 unfolding recordBytes

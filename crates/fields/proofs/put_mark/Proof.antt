@@ -1,6 +1,6 @@
 use borrow.Author.Needs.{needs}
-use Rattle.scribe.proofs.put_mark.Statement.{statement}
-use Rattle.scribe.proofs.put_mark.Tie as tie
+use Rattle.fields.proofs.put_mark.Statement.{statement}
+use Rattle.fields.proofs.put_mark.Tie as tie
 
 returns : tie.Need-returns
 returns c = rw (c .before .before .before .before .before .enum-told .given .1) (c .before .before .copy4 .ensures)

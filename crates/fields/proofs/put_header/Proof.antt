@@ -1,8 +1,8 @@
 use denote.Ref.{now}
-use Rattle.scribe.proofs.Laws.{header-stores}
+use Rattle.fields.proofs.Laws.{header-stores}
 use borrow.Author.Needs.{needs}
-use Rattle.scribe.proofs.put_header.Statement.{statement}
-use Rattle.scribe.proofs.put_header.Tie as tie
+use Rattle.fields.proofs.put_header.Statement.{statement}
+use Rattle.fields.proofs.put_header.Tie as tie
 
 returns : tie.Need-returns
 returns c =

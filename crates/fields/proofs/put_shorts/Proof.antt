@@ -1,8 +1,8 @@
 use lib.ListN.{length-append}
 use Rattle.word.proofs.Laws.{sets-append, length-bytes}
 use borrow.Author.Needs.{needs}
-use Rattle.scribe.proofs.put_shorts.Statement.{statement}
-use Rattle.scribe.proofs.put_shorts.Tie as tie
+use Rattle.fields.proofs.put_shorts.Statement.{statement}
+use Rattle.fields.proofs.put_shorts.Tie as tie
 
 returns : tie.Need-returns
 returns c =
