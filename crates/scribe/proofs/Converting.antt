@@ -7,30 +7,33 @@ use lib.ListN.{length, take}
 use lib.Seq.{sets}
 use lib.Dec.{leb}
 use borrow.Author.Tests.{le-leb, lt-leb, leb-true}
-use Rattle.word.proofs.Laws.{Bytes, sets-append, sets-front}
+use Rattle.word.proofs.Laws.{Bytes, sets-front}
 use Rattle.word.specs.declared.Order.{Order}
 use Rattle.word.specs.declared.Order.the-variants.{High, Low}
 use Rattle.refusal.specs.Refusals.{demand, orElse, noRoom}
 use Rattle.refusal.proofs.Laws.{met, neither, or-first}
 use Rattle.trace.specs.Layout.{writesIn}
-use Rattle.trace.specs.Encode.{headerBytes, recordsTo, encode, other, turned, Proper}
+use Rattle.trace.specs.Encode.{headerBytes, recordsTo, other, turned, Proper}
 use Rattle.trace.specs.Check.{refusalOf, traceOf, decode, checkOf}
 use Rattle.trace.specs.Check.Outcome.{Whole}
 use Rattle.trace.specs.declared.Summary.{Summary}
 use Rattle.trace.specs.declared.Checked.the-variants.{Refused, Accepted}
 use Rattle.trace.proofs.Accept.{accepted, refused-is}
-use Rattle.trace.proofs.Sizes.{length-header, length-encode}
+use Rattle.trace.proofs.Sizes.{length-encode}
 use Rattle.trace.proofs.Round.{decode-encode}
 use Rattle.trace.proofs.Whole.{proper, encode-trace, length-trace, decode-whole}
 use Rattle.trace.proofs.Laws.{unstored}
+use Rattle.scribe.proofs.Laws.{encode-stores}
 use Rattle.scribe.specs.Write.{convertRefusal, converted, ConvertedTo, ConvertsBack}
 
 -- the header and then the records, in the other order, are the conversion
 pub convert-stores : (s : List ℕ) (h : Summary) (to : Order) (writes : ℕ) (out mid out′ : List ℕ) → checkOf s ≡ Accepted h
     → to ≡ other (h .order) → writes ≡ writesIn (traceOf s .kinds) → mid ≡ sets out 0 (headerBytes to (h .settings) (h .count) writes)
     → out′ ≡ sets mid 48 (recordsTo to (traceOf s .pages) (traceOf s .kinds) (h .count)) → out′ ≡ sets out 0 (converted (traceOf s))
-unfolding converted encode
-convert-stores s h to writes out mid out′ e o w m d = rw (d, m, o, w, accepted s h e .1) (simp (sets-append, length-header))
+unfolding converted
+convert-stores s h to writes out mid out′ e o w m d =
+    let t = accepted s h e .1 in
+    encode-stores (turned (traceOf s)) (length (traceOf s .pages)) writes out mid out′ refl w (rw (o, t) at m) (rw (o, t) at d)
 
 pub convert-whole : (s : List ℕ) (h : Summary) (out out′ : List ℕ) → checkOf s ≡ Accepted h → length s ≤ length out → out′ ≡ sets out 0 (converted (traceOf s))
     → ConvertedTo s out 0 out′

@@ -15,9 +15,9 @@ use Rattle.refusal.specs.Refusals.{demand, badField, noRoom, outOfRange, tooMan
 use Rattle.refusal.proofs.Laws.{met}
 use Rattle.settings.specs.Settings.{inRange}
 use Rattle.trace.specs.Layout.{Trace, recordLimit, fileLength, isWrite, knownKind, knownKinds, writesIn}
-use Rattle.trace.specs.Encode.{recordBytes, recordsTo, Proper}
+use Rattle.trace.specs.Encode.{headerBytes, recordBytes, recordsTo, encode, Proper}
 use Rattle.trace.proofs.Lists.{writes-snoc, known-snoc}
-use Rattle.trace.proofs.Sizes.{length-records}
+use Rattle.trace.proofs.Sizes.{length-header, length-records}
 use Rattle.scribe.specs.Write.{writeRefusal}
 
 -- a turn of the pass over the kinds
@@ -32,6 +32,13 @@ pub records-more : (o : Order) (pages kinds out₀ out out′ : List ℕ) (i : �
     → out′ ≡ sets out (48 + 8 * i) (recordBytes o (getD pages i 0) (getD kinds i 0)) → out′ ≡ sets out₀ 48 (recordsTo o pages kinds (i + 1))
 records-more o pages kinds out₀ out out′ i e e′ =
     rw (e′, e, add-one, sets-append, length-records o pages kinds i)
+
+-- the header and then the records are the encoding
+pub encode-stores : (t : Trace) (n writes : ℕ) (out mid out′ : List ℕ) → n ≡ length (t .pages) → writes ≡ writesIn (t .kinds)
+    → mid ≡ sets out 0 (headerBytes (t .order) (t .settings) n writes) → out′ ≡ sets mid 48 (recordsTo (t .order) (t .pages) (t .kinds) n)
+    → out′ ≡ sets out 0 (encode t)
+unfolding encode
+encode-stores t n writes out mid out′ l w m d = rw (d, m, l, w) (simp (sets-append, length-header))
 
 -- a writer that refuses nothing has room for a trace that the layout can hold, if its numbers fit their widths
 pub granted : (t : Trace) (room : ℕ) → t .settings .seed < 4294967296 → ((i : ℕ) → getD (t .pages) i 0 < 4294967296) → writeRefusal t room ≡ 0

@@ -1,7 +1,9 @@
 use native.Mathlib.Omega.{arith}
+use lib.ListN.{length}
 use denote.Ref.{now}
 use borrow.Author.Tests.{lt-leb, le-leb}
 use Rattle.word.proofs.Laws.{Bytes, bytes-of}
+use Rattle.trace.specs.Layout.{headerLength}
 use Rattle.trace.specs.Check.{checkOf, decode, refusalOf, traceOf}
 use Rattle.trace.proofs.Promise.{with-promise}
 use borrow.Author.Needs.{needs}
@@ -14,7 +16,7 @@ returns c =
     let g = c .before in
     let s = now (g .before .args .bytes) in
     let bs : Bytes s = bytes-of s (λ i. let f = g .shared-slice-known .given i in omega arith) in
-    with-promise s _ bs (simp (lt-leb _ _ (c .if1 .taken)))
+    with-promise s _ bs (rw (lt-leb headerLength (length s) (c .if1 .taken)))
 
 returns-2 : tie.Need-returns-2
 unfolding checkOf decode refusalOf traceOf
