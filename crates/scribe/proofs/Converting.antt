@@ -35,6 +35,14 @@ convert-stores s h to writes out mid out′ e o w m d =
     let t = accepted s h e .1 in
     encode-stores (turned (traceOf s)) (length (traceOf s .pages)) writes out mid out′ refl w (rw (o, t) at m) (rw (o, t) at d)
 
+pub convert-refused : (s out : List ℕ) (r : ℕ) → checkOf s ≡ Refused r → ConvertedTo s out r out
+unfolding convertRefusal
+convert-refused s out r e =
+    let f = refused-is s r e in
+    let next = demand (leb (length s) (length out)) noRoom 0 in
+    let first : orElse (refusalOf s) next ≡ r = rw (f .0) (sym (or-first r next (f .1))) in
+    record { answers = sym first; bytes-hold = rw first (unstored converted r (traceOf s) out (f .1)) }
+
 pub convert-whole : (s : List ℕ) (h : Summary) (out out′ : List ℕ) → checkOf s ≡ Accepted h → length s ≤ length out → out′ ≡ sets out 0 (converted (traceOf s))
     → ConvertedTo s out 0 out′
 unfolding convertRefusal
@@ -47,14 +55,6 @@ unfolding convertRefusal
 convert-no-room s h out e short =
     let z : orElse (refusalOf s) (demand (leb (length s) (length out)) noRoom 0) ≡ noRoom = rw (accepted s h e .0, lt-leb (length s) (length out) short) in
     record { answers = sym z; bytes-hold = rw z }
-
-pub convert-refused : (s out : List ℕ) (r : ℕ) → checkOf s ≡ Refused r → ConvertedTo s out r out
-unfolding convertRefusal
-convert-refused s out r e =
-    let f = refused-is s r e in
-    let next = demand (leb (length s) (length out)) noRoom 0 in
-    let first : orElse (refusalOf s) next ≡ r = rw (f .0) (sym (or-first r next (f .1))) in
-    record { answers = sym first; bytes-hold = rw first (unstored converted r (traceOf s) out (f .1)) }
 
 other-other : (o : Order) → other (other o) ≡ o
 other-other High = refl

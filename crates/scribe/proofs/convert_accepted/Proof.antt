@@ -9,7 +9,7 @@ use Rattle.scribe.proofs.convert_accepted.Tie as tie
 returns : tie.Need-returns
 returns c =
     let b = c .before .before .before in
-    convert-no-room (now (b .args .bytes)) (b .args .summary) (now (b .args .out)) (b .pre) (c .if1 .taken)
+    convert-no-room (now (b .args .bytes)) (b .args .summary) (now (b .args .out)) (b .pre) (omega arith)
 
 put-header-requires : tie.Need-put-header-requires
 put-header-requires c κs =
