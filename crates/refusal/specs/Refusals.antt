@@ -38,6 +38,10 @@ outOfRange = 8
 abbrev pub noRoom : ℕ
 noRoom = 13
 
+-- 14: pool not sound, or a count of the tally handed in above 4,000,000,000
+abbrev pub notSound : ℕ
+notSound = 14
+
 -- what follows where a demand is met, else its refusal: demands written one after the other are checked in that order
 abbrev pub demand : Bool → ℕ → ℕ → ℕ
 demand true refusal after = after

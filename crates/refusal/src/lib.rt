@@ -20,6 +20,8 @@ pub const OUT_OF_RANGE: u32 = 8;
 
 pub const NO_ROOM: u32 = 13;
 
+pub const NOT_SOUND: u32 = 14;
+
 // What follows where the demand is met, else the refusal.
 pub fn demanded(met: bool, refusal: u32, after: u32) -> u32
     ensures { λ r. ⌜ r ≡ demand met refusal after ⌝ }

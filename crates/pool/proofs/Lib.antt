@@ -1,0 +1,6 @@
+pub mod Laws
+pub mod Sound
+pub mod ByFrame
+pub mod Quiet
+pub mod Sizes
+pub mod Opening

@@ -1,0 +1,257 @@
+-- Each reference, pin and unpin keeps a sound pool sound; what is found is the only frame with that page; other frames stay.
+use mathlib.Core.Path.{_≡_, refl, ap, sym, subst, _∙_}
+use mathlib.Core.Bool.{Bool, true, false, not, _&&_, true≢false, false≢true, and-eq-true-iff}
+use mathlib.Core.List.{List}
+use mathlib.Core.Logic.{_⊎_, ⊎-elim}
+use Prim.Native.Nat.{ℕ, _+_, _-_, _*_, _/_, _≤_, _<_, min}
+use native.Mathlib.Omega.{arith}
+use native.Mathlib.Decide.{ℕ-discrete, decLt}
+use native.Mathlib.Nat.{le-trans, le-of-lt, le-div-iff-mul-le, div-mul-le-self}
+use lib.ListN.{length, getD, set, length-set}
+use lib.Seq.{getD-set-same, getD-set-other}
+use lib.Dec.{eqb}
+use borrow.Author.Tests.{eq-eqb, eqb-true, eqb-false}
+use Rattle.search.specs.declared.Found.the-variants.{At, Nothing}
+use Rattle.search.specs.Search.{never, leastBelow}
+use Rattle.search.proofs.Least.{least-sound, least-none, first-lowest}
+use Rattle.search.proofs.Every.{undenied}
+use Rattle.settings.specs.declared.Settings.{Settings}
+use Rattle.settings.specs.Settings.{inRange}
+use Rattle.settings.proofs.Laws.{ranges}
+use Rattle.pool.specs.declared.Frame.{Frame}
+use Rattle.pool.specs.declared.Pool.{Pool}
+use Rattle.pool.specs.Pool.{emptyFrame, frameAt, epochAt, nowOf, lastEpochOf}
+use Rattle.pool.specs.Sound.{holdsPage}
+use Rattle.pool.proofs.Sound.{Logged, SoundFrame, Sound}
+use Rattle.pool.proofs.Sizes.{Sized}
+use Rattle.pool.proofs.Quiet.{Alike, Quiet, sound-quiet}
+use Rattle.reference.specs.Search.{has, findPage, unused, lowestUnused}
+use Rattle.reference.specs.Logs.{cleared}
+use Rattle.reference.specs.Reference.{withFrame, withCount, withPins, raised, newFrame, emptied, hitAt, fetchedAt, pinnedAt, unpinnedAt}
+use Rattle.reference.proofs.Logs.{clear-length}
+use Rattle.reference.proofs.Logged.{logged-up, logged-same, clear-logged, clear-other}
+use Rattle.reference.proofs.Ready.{Own, own, Ready, set-at, referred-sound, referred-sized}
+
+-- epochs do not fall
+pub epoch-up : (s : Settings) (a b : ℕ) → 0 < s .epoch → a ≤ b → epochAt s a ≤ epochAt s b
+epoch-up s a b h l = le-div-iff-mul-le h .1 (le-trans (div-mul-le-self a (s .epoch)) l)
+
+-- in a sound pool the frames in use have different pages and last steps
+module _ (p : Pool) (s : Sound p) where
+  abbrev f : ℕ → Frame
+  f j = frameAt (p .frames) j
+
+  pub epoch-positive : 0 < p .settings .epoch
+  epoch-positive = ranges (p .settings) (s .settings) .epoch .0
+
+  pub last-before-now : (i : ℕ) → i < 128 → f i .used ≡ true → lastEpochOf p i ≤ nowOf p
+  unfolding lastEpochOf nowOf
+  last-before-now i l u = epoch-up (p .settings) (f i .last) (p .k) epoch-positive (le-of-lt (s .frame i l .below u))
+
+  -- what is found is the only frame with that page
+  pub find-only : (page i j : ℕ) → findPage (p .frames) page ≡ At i → j < 128 → has (p .frames) page j ≡ true → j ≡ i
+  unfolding findPage
+  find-only page i j e l h =
+      let w = least-sound (has (p .frames) page) never 128 i e in
+      let a = and-eq-true-iff (f i .used) (eqb (f i .page) page) .0 (w .1) in
+      let b = and-eq-true-iff (f j .used) (eqb (f j .page) page) .0 h in
+      let same : f j .page ≡ f i .page = eqb-true (f j .page) page (b .1) ∙ sym (eqb-true (f i .page) page (a .1)) in
+      elim (decLt j i) [
+        | yes q ↦ absurd (s .frame i (w .0) .pages (a .0) j q same)
+        | no q ↦ elim (decLt i j) [ yes t ↦ absurd (s .frame j l .pages (b .0) i t (sym same)) | no t ↦ omega arith ]
+      ]
+
+  pub find-used : (page i : ℕ) → findPage (p .frames) page ≡ At i → (i < 128) × (f i .used ≡ true) × (f i .page ≡ page)
+  unfolding findPage
+  find-used page i e =
+      let w = least-sound (has (p .frames) page) never 128 i e in
+      let a = and-eq-true-iff (f i .used) (eqb (f i .page) page) .0 (w .1) in
+      (w .0, a .0, eqb-true (f i .page) page (a .1))
+
+  -- a page that is not found is in no frame in use
+  pub find-absent : (page j : ℕ) → findPage (p .frames) page ≡ Nothing → j < 128 → f j .used ≡ true → f j .page ≡ page → ⊥
+  unfolding findPage
+  find-absent page j e l u q = false≢true (sym (least-none (has (p .frames) page) never 128 j e l) ∙ rw (u, eq-eqb (f j .page) page q))
+
+  -- a frame in use of a sound pool is ready to be referred to
+  pub ready-of : (i : ℕ) → Sized p → p .k < 50000 → i < 128 → f i .used ≡ true → Ready p i
+  ready-of i z room l u =
+      let g = s .frame i l in record {
+        sized = z;
+        settings = s .settings;
+        hand = s .hand;
+        room = room;
+        frame = l;
+        used = u;
+        within = g .within u;
+        capped = g .capped;
+        access = logged-up (p .access) (i * 8) 8 (f i .accesses) (lastEpochOf p i) (nowOf p) (last-before-now i l u) (g .access);
+        write = logged-up (p .write) (i * 4) 4 (f i .writes) (lastEpochOf p i) (nowOf p) (last-before-now i l u) (g .write);
+        written = g .written;
+        others = λ j h _. own p j (s .frame j h);
+        lowest = λ j m h k v. s .frame j k .lowest v m h;
+        pages = λ j m h k v. s .frame j k .pages v m h;
+        lasts = λ j m h k _ _ v. s .frame j k .lasts v m h;
+      }
+
+-- a change of one frame that touches no page, last step or log
+module _ (p : Pool) (s : Sound p) (z : Sized p) (i : ℕ) (l : i < 128) (g : Frame) (a : Alike (p .settings .cap) (frameAt (p .frames) i) g) where
+  pub frame-quiet : Quiet p (withFrame p i g)
+  frame-quiet = record {
+    settings = refl;
+    k = refl;
+    access = refl;
+    write = refl;
+    hand = s .hand;
+    frame = λ j h. set-at (p .frames) i j g (Alike (p .settings .cap) (frameAt (p .frames) j)) (rw (z .frames) l)
+        (λ e. subst (λ (x : ℕ). Alike (p .settings .cap) (frameAt (p .frames) x) g) (sym e) a)
+        (λ _. record { used = refl; page = refl; last = refl; accesses = refl; writes = refl; dirty = λ d. d; count = s .frame j h .capped; still = λ _. refl });
+  }
+
+  pub frame-sound : Sound (withFrame p i g)
+  frame-sound = sound-quiet p (withFrame p i g) s frame-quiet
+
+  pub frame-sized : Sized (withFrame p i g)
+  frame-sized = record { frames = length-set (p .frames) i g ∙ z .frames; access = z .access; write = z .write }
+
+  frame-used : frameAt (withFrame p i g .frames) i .used ≡ frameAt (p .frames) i .used
+  frame-used = ap (λ (h : Frame). h .used) (getD-set-same (p .frames) i g emptyFrame (rw (z .frames) l)) ∙ a .used
+
+module _ (p : Pool) (s : Sound p) (z : Sized p) (i : ℕ) (l : i < 128) (u : frameAt (p .frames) i .used ≡ true) where
+  -- pin and unpin of a frame in use
+  repinned : (n : ℕ) → Alike (p .settings .cap) (frameAt (p .frames) i) (withPins (frameAt (p .frames) i) n)
+  repinned n = record { used = refl; page = refl; last = refl; accesses = refl; writes = refl; dirty = λ d. d; count = s .frame i l .capped; still = λ o. absurd (true≢false (sym u ∙ o)) }
+
+  pub pin-sound : Sound (pinnedAt p i)
+  unfolding pinnedAt
+  pin-sound = frame-sound p s z i l (withPins (frameAt (p .frames) i) (frameAt (p .frames) i .pins + 1)) (repinned (frameAt (p .frames) i .pins + 1))
+
+  pub unpin-sound : Sound (unpinnedAt p i)
+  unfolding unpinnedAt
+  unpin-sound = frame-sound p s z i l (withPins (frameAt (p .frames) i) (frameAt (p .frames) i .pins - 1)) (repinned (frameAt (p .frames) i .pins - 1))
+
+  -- a hit
+  abbrev count : ℕ
+  count = raised (p .settings .cap) (frameAt (p .frames) i .count)
+
+  risen : Alike (p .settings .cap) (frameAt (p .frames) i) (withCount (frameAt (p .frames) i) count)
+  risen = record { used = refl; page = refl; last = refl; accesses = refl; writes = refl; dirty = λ d. d; count = omega arith; still = λ o. absurd (true≢false (sym u ∙ o)) }
+
+  abbrev q : Pool
+  q = withFrame p i (withCount (frameAt (p .frames) i) count)
+
+  hit-ready : p .k < 50000 → Ready q i
+  hit-ready room =
+      ready-of q (frame-sound p s z i l (withCount (frameAt (p .frames) i) count) risen) i (frame-sized p s z i l (withCount (frameAt (p .frames) i) count) risen) room l
+      (frame-used p s z i l (withCount (frameAt (p .frames) i) count) risen ∙ u)
+
+  pub hit-sound : (write : Bool) → p .k < 50000 → Sound (hitAt p i write)
+  unfolding hitAt
+  hit-sound write room = referred-sound q i write (hit-ready room)
+
+  pub hit-sized : (write : Bool) → p .k < 50000 → Sized (hitAt p i write)
+  unfolding hitAt
+  hit-sized write room = referred-sized q i write (hit-ready room)
+
+-- a fetch of an absent page into a frame below f, all frames before it in use
+module _ (p : Pool) (s : Sound p) (z : Sized p) (i page : ℕ) (l : i < p .settings .frames) (under : (j : ℕ) → j < i → frameAt (p .frames) j .used ≡ true)
+    (absent : (j : ℕ) → j < 128 → frameAt (p .frames) j .used ≡ true → frameAt (p .frames) j .page ≡ page → ⊥) where
+  abbrev e : Pool
+  e = emptied p i page
+
+  few : i < 128
+  few = let h = ranges (p .settings) (s .settings) .frames .1 in omega arith
+
+  now-at : (j : ℕ) (P : Frame → Type 0) → (j ≡ i → P (newFrame page)) → ((j ≡ i → ⊥) → P (frameAt (p .frames) j)) → P (frameAt (e .frames) j)
+  now-at j P same other = set-at (p .frames) i j (newFrame page) P (rw (z .frames) few) same other
+
+  new : frameAt (e .frames) i ≡ newFrame page
+  new = getD-set-same (p .frames) i (newFrame page) emptyFrame (rw (z .frames) few)
+
+  old : (j : ℕ) → (j ≡ i → ⊥) → frameAt (e .frames) j ≡ frameAt (p .frames) j
+  old j ne = getD-set-other (p .frames) i j (newFrame page) emptyFrame ne
+
+  old-epoch : (j : ℕ) → (j ≡ i → ⊥) → lastEpochOf p j ≡ lastEpochOf e j
+  unfolding lastEpochOf
+  old-epoch j ne = rw (old j ne)
+
+  access-room : i * 8 + 8 ≤ length (p .access)
+  access-room = let h = few in let k = z .access in omega arith
+
+  write-room : i * 4 + 4 ≤ length (p .write)
+  write-room = let h = few in let k = z .write in omega arith
+
+  old-own : (j : ℕ) → j < 128 → (j ≡ i → ⊥) → Own e j
+  old-own j h ne =
+      let g = s .frame j h in record {
+        within = λ u. g .within (rw (old j ne) at u);
+        zero = λ u. old j ne ∙ g .zero (rw (old j ne) at u);
+        capped = rw (old j ne) (g .capped);
+        below = λ u. rw (old j ne) (g .below (rw (old j ne) at u));
+        access = rw (old j ne, ← old-epoch j ne)
+            (logged-same (p .access) (e .access) (j * 8) 8 (frameAt (p .frames) j .accesses) (lastEpochOf p j) (clear-other (p .access) 8 i j ne access-room) (g .access));
+        write = rw (old j ne, ← old-epoch j ne)
+            (logged-same (p .write) (e .write) (j * 4) 4 (frameAt (p .frames) j .writes) (lastEpochOf p j) (clear-other (p .write) 4 i j ne write-room) (g .write));
+        accessed = λ u. rw (old j ne) (g .accessed (rw (old j ne) at u));
+        written = λ d. rw (old j ne) (g .written (rw (old j ne) at d));
+      }
+
+  emptied-lowest : (j m : ℕ) → m < j → j < 128 → frameAt (e .frames) j .used ≡ true → frameAt (e .frames) m .used ≡ true
+  emptied-lowest j m h k =
+      now-at m (λ (g : Frame). frameAt (e .frames) j .used ≡ true → g .used ≡ true) (λ _ _. refl)
+      (λ ne. now-at j (λ (g : Frame). g .used ≡ true → frameAt (p .frames) m .used ≡ true) (λ q _. under m (omega arith)) (λ _ u. s .frame j k .lowest u m h))
+
+  emptied-pages : (j m : ℕ) → m < j → j < 128 → frameAt (e .frames) j .used ≡ true → frameAt (e .frames) m .page ≡ frameAt (e .frames) j .page → ⊥
+  emptied-pages j m h k =
+      now-at m (λ (g : Frame). frameAt (e .frames) j .used ≡ true → g .page ≡ frameAt (e .frames) j .page → ⊥)
+      (λ q. now-at j (λ (g : Frame). g .used ≡ true → page ≡ g .page → ⊥) (λ r _ _. absurd (omega arith)) (λ _ u x. absent j k u (sym x)))
+      (λ ne. now-at j (λ (g : Frame). g .used ≡ true → frameAt (p .frames) m .page ≡ g .page → ⊥)
+      (λ q _. absent m (omega arith) (under m (omega arith)))
+      (λ _ u. s .frame j k .pages u m h))
+
+  fetch-ready : p .k < 50000 → Ready e i
+  fetch-ready room = record {
+    sized = record {
+      frames = length-set (p .frames) i (newFrame page) ∙ z .frames;
+      access = clear-length (p .access) (i * 8) 8 access-room ∙ z .access;
+      write = clear-length (p .write) (i * 4) 4 write-room ∙ z .write;
+    };
+    settings = s .settings;
+    hand = s .hand;
+    room = room;
+    frame = few;
+    used = ap (λ (g : Frame). g .used) new;
+    within = l;
+    capped = rw new (ranges (p .settings) (s .settings) .cap .0);
+    access = rw new (clear-logged (p .access) (i * 8) 8 (nowOf e) access-room);
+    write = rw new (clear-logged (p .write) (i * 4) 4 (nowOf e) write-room);
+    written = λ d. absurd (true≢false (sym d ∙ ap (λ (g : Frame). g .dirty) new));
+    others = old-own;
+    lowest = emptied-lowest;
+    pages = emptied-pages;
+    lasts = λ j m h k a b u x. s .frame j k .lasts (rw (old j a) at u) m h (ap (λ (g : Frame). g .last) (sym (old m b)) ∙ x ∙ ap (λ (g : Frame). g .last) (old j a));
+  }
+
+  pub fetch-sound : (write : Bool) → p .k < 50000 → Sound (fetchedAt p i page write)
+  unfolding fetchedAt
+  fetch-sound write room = referred-sound e i write (fetch-ready room)
+
+  pub fetch-sized : (write : Bool) → p .k < 50000 → Sized (fetchedAt p i page write)
+  unfolding fetchedAt
+  fetch-sized write room = referred-sized e i write (fetch-ready room)
+
+-- into the lowest unused frame, and into the frame of a victim where none is unused
+module _ (p : Pool) (s : Sound p) (z : Sized p) (page : ℕ) (miss : findPage (p .frames) page ≡ Nothing) (room : p .k < 50000) where
+  pub unused-sound : (i : ℕ) (write : Bool) → lowestUnused p ≡ At i → Sound (fetchedAt p i page write)
+  unfolding lowestUnused
+  unused-sound i write h =
+      fetch-sound p s z i page (least-sound (unused (p .frames)) never (p .settings .frames) i h .0)
+      (λ j l. undenied (frameAt (p .frames) j .used) (first-lowest (unused (p .frames)) (p .settings .frames) i j h l))
+      (λ j l. find-absent p s page j miss l) write room
+
+  pub victim-sound : (i : ℕ) (write : Bool) → lowestUnused p ≡ Nothing → i < p .settings .frames → Sound (fetchedAt p i page write)
+  unfolding lowestUnused
+  victim-sound i write h l =
+      fetch-sound p s z i page l
+      (λ j k. undenied (frameAt (p .frames) j .used) (least-none (unused (p .frames)) never (p .settings .frames) j h (omega arith)))
+      (λ j k. find-absent p s page j miss k) write room

@@ -1,0 +1,37 @@
+-- Searches among the numbers below a bound: the least that passes a test, the lowest on a tie; and whether every one passes.
+use mathlib.Core.Bool.{Bool, true, false, _&&_}
+use Prim.Native.Nat.{ℕ, zero, suc}
+use Rattle.search.specs.declared.Found.{Found}
+use Rattle.search.specs.declared.Found.the-variants.{At, Nothing}
+
+-- the first of two where the test holds, else the second
+abbrev pub pick {ℓ} : {A : Type ℓ} → Bool → A → A → A
+pick true a b = a
+pick false a b = b
+
+-- a case on what was found
+abbrev pub onFound {ℓ} : {A : Type ℓ} → Found → (ℕ → A) → A → A
+onFound (At i) f d = f i
+onFound Nothing f d = d
+
+-- what is best when n is offered against what was best: n only where it is less
+abbrev pub better : (ℕ → ℕ → Bool) → ℕ → Found → Found
+better less n Nothing = At n
+better less n (At b) = pick (less n b) (At n) (At b)
+
+abbrev pub offer : (ℕ → Bool) → (ℕ → ℕ → Bool) → ℕ → Found → Found
+offer ok less n prev = pick (ok n) (better less n prev) prev
+
+-- the least number below a bound that passes the test, the lowest on a tie
+unfoldable pub leastBelow : (ℕ → Bool) → (ℕ → ℕ → Bool) → ℕ → Found
+leastBelow ok less zero = Nothing
+leastBelow ok less (suc n) = offer ok less n (leastBelow ok less n)
+
+-- no number is less than another: the search then finds the lowest that passes
+abbrev pub never : ℕ → ℕ → Bool
+never i j = false
+
+-- whether every number below a bound passes the test
+unfoldable pub everyBelow : (ℕ → Bool) → ℕ → Bool
+everyBelow ok zero = true
+everyBelow ok (suc n) = everyBelow ok n && ok n
