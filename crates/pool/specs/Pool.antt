@@ -33,6 +33,10 @@ emptyFrame = record { used = false; page = 0; dirty = false; pins = 0; count = 0
 abbrev pub frameAt : List Frame → ℕ → Frame
 frameAt fs i = getD fs i emptyFrame
 
+-- a frame with another clock count
+abbrev pub withCount : Frame → ℕ → Frame
+withCount fr n = record { used = fr .used; page = fr .page; dirty = fr .dirty; pins = fr .pins; count = n; last = fr .last; accesses = fr .accesses; writes = fr .writes }
+
 -- a fresh pool has no frame in use, and k and hand 0; its sampler number is the seed
 unfoldable pub emptyPool : Settings → Pool
 emptyPool s = record {

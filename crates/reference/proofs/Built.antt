@@ -6,9 +6,9 @@ use Prim.Native.Nat.{ℕ, _+_, _*_}
 use lib.ListN.{set}
 use Rattle.pool.specs.declared.Frame.{Frame}
 use Rattle.pool.specs.declared.Pool.{Pool}
-use Rattle.pool.specs.Pool.{frameAt, nowOf}
+use Rattle.pool.specs.Pool.{frameAt, nowOf, withCount}
 use Rattle.reference.specs.Logs.{cleared, lengthWith, logWith}
-use Rattle.reference.specs.Reference.{withFrame, withCount, raised, newFrame, referred, hitAt, emptied, fetchedAt}
+use Rattle.reference.specs.Reference.{withFrame, raised, newFrame, referred, hitAt, emptied, fetchedAt}
 
 -- frame i with new log lengths, and the pool around it
 abbrev stepped : Pool → ℕ → Bool → ℕ → ℕ → List ℕ → List ℕ → Pool

@@ -20,14 +20,14 @@ use Rattle.settings.specs.Settings.{inRange}
 use Rattle.settings.proofs.Laws.{ranges}
 use Rattle.pool.specs.declared.Frame.{Frame}
 use Rattle.pool.specs.declared.Pool.{Pool}
-use Rattle.pool.specs.Pool.{emptyFrame, frameAt, epochAt, nowOf, lastEpochOf}
+use Rattle.pool.specs.Pool.{emptyFrame, frameAt, epochAt, nowOf, lastEpochOf, withCount}
 use Rattle.pool.specs.Sound.{holdsPage}
 use Rattle.pool.proofs.Sound.{Logged, SoundFrame, Sound}
 use Rattle.pool.proofs.Sizes.{Sized}
 use Rattle.pool.proofs.Quiet.{Alike, Quiet, sound-quiet}
 use Rattle.reference.specs.Search.{has, findPage, unused, lowestUnused}
 use Rattle.reference.specs.Logs.{cleared}
-use Rattle.reference.specs.Reference.{withFrame, withCount, withPins, raised, newFrame, emptied, hitAt, fetchedAt, pinnedAt, unpinnedAt}
+use Rattle.reference.specs.Reference.{withFrame, withPins, raised, newFrame, emptied, hitAt, fetchedAt, pinnedAt, unpinnedAt}
 use Rattle.reference.proofs.Logs.{clear-length}
 use Rattle.reference.proofs.Logged.{logged-up, logged-same, clear-logged, clear-other}
 use Rattle.reference.proofs.Ready.{Own, own, Ready, set-at, referred-sound, referred-sized}

@@ -6,7 +6,7 @@ use lib.ListN.{set}
 use Rattle.search.specs.Search.{pick}
 use Rattle.pool.specs.declared.Frame.{Frame}
 use Rattle.pool.specs.declared.Pool.{Pool}
-use Rattle.pool.specs.Pool.{referenceLimit, accessRoom, writeRoom, frameAt, nowOf}
+use Rattle.pool.specs.Pool.{referenceLimit, accessRoom, writeRoom, frameAt, withCount, nowOf}
 use Rattle.reference.specs.Logs.{cleared, lengthWith, logWith}
 
 -- what the bookkeeping asks: a frame, room for one reference more, an epoch length and a cap in range
@@ -19,9 +19,6 @@ pub record Referable (p : Pool) (i : ℕ) : Type 0 where
 -- the pool with another frame i
 abbrev pub withFrame : Pool → ℕ → Frame → Pool
 withFrame p i fr = record { settings = p .settings; k = p .k; hand = p .hand; sampler = p .sampler; frames = set (p .frames) i fr; access = p .access; write = p .write }
-
-abbrev pub withCount : Frame → ℕ → Frame
-withCount fr n = record { used = fr .used; page = fr .page; dirty = fr .dirty; pins = fr .pins; count = n; last = fr .last; accesses = fr .accesses; writes = fr .writes }
 
 abbrev pub withPins : Frame → ℕ → Frame
 withPins fr n = record { used = fr .used; page = fr .page; dirty = fr .dirty; pins = n; count = fr .count; last = fr .last; accesses = fr .accesses; writes = fr .writes }

@@ -109,21 +109,28 @@ pub least-none-of : (ok : ℕ → Bool) (less : ℕ → ℕ → Bool) (n : ℕ) 
 least-none-of ok less zero f = least-zero ok less
 least-none-of ok less (suc n) f = least-suc ok less n ∙ rw (f n (omega arith)) (least-none-of ok less n (λ j l. f j (omega arith)))
 
--- tests that agree below the bound find the same
+-- tests that agree below the bound, and orders that agree on what passes, find the same
+pub least-cong-on : (ok ok′ : ℕ → Bool) (less less′ : ℕ → ℕ → Bool) (n : ℕ)
+    → ((j : ℕ) → j < n → ok j ≡ ok′ j)
+    → ((i j : ℕ) → i < n → j < n → ok′ i ≡ true → ok′ j ≡ true → less i j ≡ less′ i j)
+    → leastBelow ok less n ≡ leastBelow ok′ less′ n
+least-cong-on ok ok′ less less′ zero f g = least-zero ok less ∙ sym (least-zero ok′ less′)
+least-cong-on ok ok′ less less′ (suc n) f g =
+    least-suc ok less n
+    ∙ ap (offer ok less n) (least-cong-on ok ok′ less less′ n (λ j l. f j (omega arith)) (λ i j k l. g i j (omega arith) (omega arith)))
+    ∙ one (leastBelow ok′ less′ n) (ok′ n) refl refl
+    ∙ sym (least-suc ok′ less′ n)
+  where
+    one : (r : Found) (t : Bool) → leastBelow ok′ less′ n ≡ r → ok′ n ≡ t → offer ok less n r ≡ offer ok′ less′ n r
+    one r false e q = rw (f n (omega arith), q)
+    one Nothing true e q = rw (f n (omega arith))
+    one (At b) true e q = let s = least-sound ok′ less′ n b e in rw (f n (omega arith), g n b (omega arith) (omega arith) q (s .1))
+
 pub least-cong : (ok ok′ : ℕ → Bool) (less less′ : ℕ → ℕ → Bool) (n : ℕ)
     → ((j : ℕ) → j < n → ok j ≡ ok′ j)
     → ((i j : ℕ) → i < n → j < n → less i j ≡ less′ i j)
     → leastBelow ok less n ≡ leastBelow ok′ less′ n
-least-cong ok ok′ less less′ zero f g = least-zero ok less ∙ sym (least-zero ok′ less′)
-least-cong ok ok′ less less′ (suc n) f g =
-    least-suc ok less n
-    ∙ ap (offer ok less n) (least-cong ok ok′ less less′ n (λ j l. f j (omega arith)) (λ i j k l. g i j (omega arith) (omega arith)))
-    ∙ one (leastBelow ok′ less′ n) refl
-    ∙ sym (least-suc ok′ less′ n)
-  where
-    one : (r : Found) → leastBelow ok′ less′ n ≡ r → offer ok less n r ≡ offer ok′ less′ n r
-    one Nothing e = rw (f n (omega arith))
-    one (At b) e = let q = least-sound ok′ less′ n b e in rw (f n (omega arith), g n b (omega arith) (omega arith))
+least-cong ok ok′ less less′ n f g = least-cong-on ok ok′ less less′ n f (λ i j k l _ _. g i j k l)
 
 -- what an order on indices has to be for the found one to be least
 pub record Order (less : ℕ → ℕ → Bool) : Type 0 where

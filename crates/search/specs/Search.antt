@@ -1,6 +1,8 @@
 -- Searches among the numbers below a bound: the least that passes a test, the lowest on a tie; and whether every one passes.
-use mathlib.Core.Bool.{Bool, true, false, _&&_}
+use mathlib.Core.Bool.{Bool, true, false, _&&_, _||_}
+use mathlib.Core.List.{List, [], _∷_}
 use Prim.Native.Nat.{ℕ, zero, suc}
+use lib.Dec.{eqb}
 use Rattle.search.specs.declared.Found.{Found}
 use Rattle.search.specs.declared.Found.the-variants.{At, Nothing}
 
@@ -35,3 +37,8 @@ never i j = false
 unfoldable pub everyBelow : (ℕ → Bool) → ℕ → Bool
 everyBelow ok zero = true
 everyBelow ok (suc n) = everyBelow ok n && ok n
+
+-- whether a number is in a list
+unfoldable pub among : List ℕ → ℕ → Bool
+among [] i = false
+among (x ∷ xs) i = eqb x i || among xs i

@@ -1,0 +1,108 @@
+-- What a batch is: the victim first, then exactly the least of the other dirty unpinned frames; and what it leaves.
+use mathlib.Core.Path.{_≡_, refl, ap, sym, subst, _∙_}
+use mathlib.Core.Bool.{Bool, true, false, _&&_, not, true≢false}
+use mathlib.Core.List.{List, [], _∷_}
+use mathlib.Core.Logic.{_⊎_, ⊎-elim}
+use Prim.Native.Nat.{ℕ, zero, suc, _+_, _-_, _*_, _≤_, _<_}
+use native.Mathlib.Omega.{arith}
+use lib.ListN.{length}
+use Rattle.search.specs.Search.{pick, among}
+use Rattle.search.proofs.Least.{Order}
+use Rattle.search.proofs.Every.{pick-ind}
+use Rattle.worth.specs.declared.Fraction.{Fraction}
+use Rattle.worth.specs.Value.{fraction, lessFraction}
+use Rattle.worth.proofs.Order.{Proper, less-asym, less-weak}
+use Rattle.settings.proofs.Laws.{ranges}
+use Rattle.pool.specs.declared.Frame.{Frame}
+use Rattle.pool.specs.declared.Pool.{Pool}
+use Rattle.pool.specs.Pool.{frameAt}
+use Rattle.pool.proofs.Sound.{Sound}
+use Rattle.pool.proofs.Quiet.{Alike, Quiet, sound-quiet}
+use Rattle.victim.specs.Watt.{valueAt}
+use Rattle.victim.proofs.Rules.{by-rule}
+use Rattle.victim.proofs.watt.Values.{value-positive}
+use Rattle.batch.specs.Taken.{left, othersTo}
+use Rattle.batch.specs.Batch.{distance, batchOrder, waits, batchOf, cleanFrame, cleaned}
+use Rattle.batch.specs.Ranks.{rankOf}
+use Rattle.batch.proofs.Ranks.{rank-order}
+use Rattle.batch.proofs.Taken.{Before, Sorted, Chosen, chosen, Enough, enough}
+use Rattle.batch.proofs.Cleaned.{cleaned-at}
+
+-- the pool with other frames
+abbrev pub withFrames : Pool → List Frame → Pool
+withFrames p fs = record { settings = p .settings; k = p .k; hand = p .hand; sampler = p .sampler; frames = fs; access = p .access; write = p .write }
+
+rank-positive : (p : Pool) (i : ℕ) → Proper (rankOf p i)
+unfolding rankOf
+rank-positive p i =
+    by-rule Proper (p .settings .rule) (fraction (frameAt (p .frames) i .last) 1) (fraction (frameAt (p .frames) i .count * 128 + distance p i) 1) (valueAt p i) (omega arith) (omega arith) (value-positive p i)
+
+module _ (p : Pool) (s : Sound p) where
+  -- the batch order is an order, under every rule
+  pub batch-order : Order (batchOrder p)
+  batch-order = record {
+    asym = λ a b h. sym (rank-order p s b a) ∙ less-asym (rankOf p a) (rankOf p b) (rank-order p s a b ∙ h);
+    weak = λ a b c h k. sym (rank-order p s a b) ∙ less-weak (rankOf p a) (rankOf p b) (rankOf p c) (rank-positive p b) (rank-order p s a c ∙ h) (rank-order p s b c ∙ k);
+  }
+
+  module _ (v : ℕ) where
+    -- the others of a batch
+    abbrev pub others : List ℕ
+    others = othersTo (waits p v) (batchOrder p) (p .settings .frames) (p .settings .batch - 1)
+
+    -- each is below f, dirty, unpinned and not the victim; they are sorted; and one that is left out comes after each of them
+    pub others-chosen : Chosen (waits p v) (batchOrder p) (p .settings .frames) batch-order others
+    others-chosen = chosen (waits p v) (batchOrder p) (p .settings .frames) batch-order (p .settings .batch - 1)
+
+    -- where the batch is not full none is left out
+    pub others-enough : Enough (waits p v) (batchOrder p) (p .settings .frames) batch-order others (p .settings .batch - 1)
+    others-enough = enough (waits p v) (batchOrder p) (p .settings .frames) batch-order (p .settings .batch - 1)
+
+    -- a clean victim writes nothing, a dirty one comes first
+    pub batch-clean : frameAt (p .frames) v .dirty ≡ false → batchOf p v ≡ []
+    unfolding batchOf
+    batch-clean d = rw d
+
+    pub batch-dirty : frameAt (p .frames) v .dirty ≡ true → batchOf p v ≡ v ∷ others
+    unfolding batchOf
+    batch-dirty d = rw d
+
+    few : length others ≤ p .settings .batch - 1
+    few = ⊎-elim {C = length others ≤ p .settings .batch - 1} (λ q. rw q (omega arith)) (λ q. let z = q .0 in omega arith) others-enough
+
+    -- it is no longer than the batch size
+    pub batch-length : length (batchOf p v) ≤ p .settings .batch
+    unfolding batchOf
+    batch-length =
+        let some = ranges (p .settings) (s .settings) .batch .0 in
+        let n = few in
+        pick-ind (λ (l : List ℕ). length l ≤ p .settings .batch) (frameAt (p .frames) v .dirty) (v ∷ others) [] (λ _. omega arith) (λ _. omega arith)
+
+  -- cleaning changes nothing but dirtiness
+  alike : (b : Bool) (fr : Frame) → fr .count ≤ p .settings .cap → (fr .used ≡ false → fr .dirty ≡ false) → Alike (p .settings .cap) fr (pick b (cleanFrame fr) fr)
+  alike true fr c z = record {
+    used = refl;
+    page = refl;
+    last = refl;
+    accesses = refl;
+    writes = refl;
+    dirty = λ d. absurd (true≢false (sym d));
+    count = c;
+    still = λ u. ap (λ (d : Bool). record { used = fr .used; page = fr .page; dirty = d; pins = fr .pins; count = fr .count; last = fr .last; accesses = fr .accesses; writes = fr .writes }) (sym (z u));
+  }
+  alike false fr c z = record { used = refl; page = refl; last = refl; accesses = refl; writes = refl; dirty = λ d. d; count = c; still = λ _. refl }
+
+  pub cleaned-quiet : (xs : List ℕ) → Quiet p (withFrames p (cleaned (p .frames) xs))
+  cleaned-quiet xs = record {
+    settings = refl;
+    k = refl;
+    access = refl;
+    write = refl;
+    hand = s .hand;
+    frame = λ i l. rw (cleaned-at (p .frames) xs i)
+        (alike (among xs i) (frameAt (p .frames) i) (s .frame i l .capped) (λ u. ap (λ (g : Frame). g .dirty) (s .frame i l .zero u)));
+  }
+
+  -- what a batch leaves is sound
+  pub batch-sound : (v : ℕ) → Sound (withFrames p (cleaned (p .frames) (batchOf p v)))
+  batch-sound v = sound-quiet p (withFrames p (cleaned (p .frames) (batchOf p v))) s (cleaned-quiet (batchOf p v))

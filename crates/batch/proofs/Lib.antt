@@ -1,0 +1,6 @@
+pub mod Taken
+pub mod Ranks
+pub mod Cleaned
+pub mod Batching
+pub mod Whole
+pub mod Laws

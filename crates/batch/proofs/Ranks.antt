@@ -1,0 +1,127 @@
+-- The ranks: small enough to compare, and in the batch order.
+use mathlib.Core.Path.{_≡_, refl, ap, sym, subst, _∙_}
+use mathlib.Core.Bool.{Bool, true, false}
+use mathlib.Core.List.{List}
+use Prim.Native.Nat.{ℕ, zero, suc, _+_, _-_, _*_, _%_, _≤_, _<_}
+use native.Mathlib.Omega.{arith}
+use native.Mathlib.Nat.{mod-lt, mul-one}
+use native.Mathlib.Decide.{ℕ-discrete}
+use lib.ListN.{length, getD, set}
+use lib.Seq.{getD-set-same, getD-set-other}
+use lib.Dec.{eqb, ltb}
+use borrow.Author.Tests.{eqb-true, eqb-false, lt-ltb, ltb-true}
+use Rattle.search.specs.Search.{pick}
+use Rattle.search.proofs.Every.{same-test}
+use Rattle.search.proofs.Least.{Order, by-key}
+use Rattle.worth.specs.declared.Fraction.{Fraction}
+use Rattle.worth.specs.Value.{fraction, lessFraction}
+use Rattle.worth.specs.Sizes.{Small}
+use Rattle.settings.proofs.Laws.{ranges}
+use Rattle.pool.specs.declared.Pool.{Pool}
+use Rattle.pool.specs.Pool.{frameAt}
+use Rattle.pool.proofs.Sound.{Sound}
+use Rattle.victim.specs.Watt.{valueAt, lessValue}
+use Rattle.victim.specs.Rules.{byRule}
+use Rattle.victim.specs.Lru.{older}
+use Rattle.victim.proofs.Rules.{by-rule, rule-rest}
+use Rattle.victim.proofs.watt.Values.{value-fits, watt-order}
+use Rattle.batch.specs.Batch.{distance, sooner, batchOrder, waits}
+use Rattle.batch.specs.Ranks.{rankOf, rankWhere, RankedTo}
+
+-- the three ways to a rank
+pub rank-first : (p : Pool) (i : ℕ) → p .settings .rule ≡ 0 → fraction (frameAt (p .frames) i .last) 1 ≡ rankOf p i
+unfolding rankOf
+rank-first p i e = rw e
+
+pub rank-second : (p : Pool) (i d : ℕ) → p .settings .rule ≡ 1 → d ≡ distance p i → fraction (frameAt (p .frames) i .count * 128 + d) 1 ≡ rankOf p i
+unfolding rankOf
+rank-second p i d e h = rw (e, h)
+
+pub rank-third : (p : Pool) (i : ℕ) (v : Fraction) → 2 ≤ p .settings .rule → v ≡ valueAt p i → v ≡ rankOf p i
+unfolding rankOf
+rank-third p i v l h = h ∙ sym (rule-rest (p .settings .rule) (fraction (frameAt (p .frames) i .last) 1) (fraction (frameAt (p .frames) i .count * 128 + distance p i) 1) (valueAt p i) l)
+
+pub remainder-small : (x f : ℕ) → 0 < f → f ≤ 128 → x % f < 128
+remainder-small x f h l = let q = mod-lt x h in omega arith
+
+-- counts, then distances below 128, are compared as one number
+lexical : (c d e h : ℕ) → d < 128 → h < 128 → ltb (c * 128 + d) (e * 128 + h) ≡ pick (eqb c e) (ltb d h) (ltb c e)
+lexical c d e h x y = go (eqb c e) refl
+  where
+    go : (t : Bool) → eqb c e ≡ t → ltb (c * 128 + d) (e * 128 + h) ≡ pick t (ltb d h) (ltb c e)
+    go true q =
+        let z = eqb-true c e q in
+        same-test (ltb (c * 128 + d) (e * 128 + h)) (ltb d h)
+        (λ k. let l = ltb-true (c * 128 + d) (e * 128 + h) k in lt-ltb d h (omega arith))
+        (λ k. let l = ltb-true d h k in lt-ltb (c * 128 + d) (e * 128 + h) (omega arith))
+    go false q =
+        let z = eqb-false c e q in
+        same-test (ltb (c * 128 + d) (e * 128 + h)) (ltb c e)
+        (λ k. let l = ltb-true (c * 128 + d) (e * 128 + h) k in lt-ltb c e (omega (arith, z)))
+        (λ k. let l = ltb-true c e k in lt-ltb (c * 128 + d) (e * 128 + h) (omega arith))
+
+whole-less : (a b : ℕ) → lessFraction (fraction a 1) (fraction b 1) ≡ ltb a b
+unfolding lessFraction
+whole-less a b = rw (mul-one a, mul-one b)
+
+module _ (p : Pool) (s : Sound p) where
+  distance-small : (i : ℕ) → distance p i < 128
+  distance-small i =
+      let r = ranges (p .settings) (s .settings) .frames in
+      remainder-small (i + p .settings .frames - p .hand) (p .settings .frames) (r .0) (r .1)
+
+  whole-small : (n : ℕ) → n ≤ 70000000 → Small (fraction n 1)
+  whole-small n h = record { num = h; den = omega arith }
+
+  pub rank-small : (i : ℕ) → i < 128 → Small (rankOf p i)
+  unfolding rankOf
+  rank-small i l =
+      let g = s .frame i l in
+      let few = s .few in
+      let capped = g .capped in
+      let cap = ranges (p .settings) (s .settings) .cap .1 in
+      let far = distance-small i in
+      by-rule Small (p .settings .rule) (fraction (frameAt (p .frames) i .last) 1) (fraction (frameAt (p .frames) i .count * 128 + distance p i) 1) (valueAt p i)
+      (whole-small (frameAt (p .frames) i .last) (last-small i l))
+      (whole-small (frameAt (p .frames) i .count * 128 + distance p i) (omega arith))
+      (value-fits p i s l)
+    where
+      last-small : (i : ℕ) → i < 128 → frameAt (p .frames) i .last ≤ 70000000
+      last-small i l = go (frameAt (p .frames) i .used) refl
+        where
+          go : (t : Bool) → frameAt (p .frames) i .used ≡ t → frameAt (p .frames) i .last ≤ 70000000
+          go true e = let b = s .frame i l .below e in let few = s .few in omega arith
+          go false e = rw (s .frame i l .zero e) (omega arith)
+
+  -- comparing ranks is the batch order
+  pub rank-order : (i j : ℕ) → lessFraction (rankOf p i) (rankOf p j) ≡ batchOrder p i j
+  unfolding rankOf batchOrder
+  rank-order i j = go (p .settings .rule)
+    where
+      go : (r : ℕ) → lessFraction
+          (byRule r (fraction (frameAt (p .frames) i .last) 1) (fraction (frameAt (p .frames) i .count * 128 + distance p i) 1) (valueAt p i))
+          (byRule r (fraction (frameAt (p .frames) j .last) 1) (fraction (frameAt (p .frames) j .count * 128 + distance p j) 1) (valueAt p j))
+          ≡ byRule r (older (p .frames) i j) (sooner p i j) (lessValue p i j)
+      go zero = whole-less (frameAt (p .frames) i .last) (frameAt (p .frames) j .last)
+      go (suc zero) =
+          whole-less (frameAt (p .frames) i .count * 128 + distance p i) (frameAt (p .frames) j .count * 128 + distance p j)
+          ∙ lexical (frameAt (p .frames) i .count) (distance p i) (frameAt (p .frames) j .count) (distance p j) (distance-small i) (distance-small j)
+      go (suc (suc r)) = refl
+
+-- the arrays of waiting frames and ranks, one frame more
+module _ (p : Pool) (v : ℕ) where
+  pub ranked-none : (ws : List Bool) (rs : List Fraction) → RankedTo p v 0 ws rs
+  ranked-none ws rs = record { waiting = λ i l. absurd (omega arith); ranks = λ i l. absurd (omega arith) }
+
+  pub ranked-more : (ws : List Bool) (rs : List Fraction) (n : ℕ) (r : Fraction) → length ws ≡ 128 → length rs ≡ 128 → n < 128 → RankedTo p v n ws rs → r ≡ rankWhere (waits p v n) p n
+      → RankedTo p v (n + 1) (set ws n (waits p v n)) (set rs n r)
+  ranked-more ws rs n r x y l k h = record {
+    waiting = λ i m. at ws i (waits p v n) false (λ b. b ≡ waits p v i) (rw x l) m (λ q. ap (waits p v) (sym q)) (k .waiting i);
+    ranks = λ i m. at rs i r (fraction 0 0) (λ b. b ≡ rankWhere (waits p v i) p i) (rw y l) m (λ q. h ∙ ap (λ (j : ℕ). rankWhere (waits p v j) p j) (sym q)) (k .ranks i);
+  }
+    where
+      at : {A : Type 0} (l : List A) (i : ℕ) (a d : A) (P : A → Type 0) → n < length l → i < n + 1 → (i ≡ n → P a) → (i < n → P (getD l i d)) → P (getD (set l n a) i d)
+      at l i a d P below m same other = elim (ℕ-discrete i n) [
+        | yes q ↦ subst (λ (x : ℕ). P (getD (set l n a) x d)) (sym q) (subst P (sym (getD-set-same l n a d below)) (same q))
+        | no q ↦ subst P (sym (getD-set-other l n i a d q)) (other (omega (arith, q)))
+      ]

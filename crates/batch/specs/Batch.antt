@@ -1,0 +1,50 @@
+-- Batch: its order under each rule, its frames, and what is written and left.
+use Prim.Native.Nat.{ℕ, _+_, _-_, _%_}
+use mathlib.Core.Bool.{Bool, true, false, _&&_, not}
+use mathlib.Core.List.{List, [], _∷_, map}
+use lib.ListN.{set}
+use lib.Dec.{eqb, ltb}
+use Rattle.search.specs.Search.{pick}
+use Rattle.pool.specs.declared.Frame.{Frame}
+use Rattle.pool.specs.declared.Pool.{Pool}
+use Rattle.pool.specs.Pool.{frameAt}
+use Rattle.victim.specs.Choice.{unpinned}
+use Rattle.victim.specs.Lru.{older}
+use Rattle.victim.specs.Watt.{lessValue}
+use Rattle.victim.specs.Rules.{byRule}
+use Rattle.batch.specs.Taken.{othersTo}
+
+-- distance upward from the hand after the sweep
+abbrev pub distance : Pool → ℕ → ℕ
+distance p i = (i + p .settings .frames - p .hand) % p .settings .frames
+
+-- clock by count after the sweep, then distance
+abbrev pub sooner : Pool → ℕ → ℕ → Bool
+sooner p i j =
+    pick (eqb (frameAt (p .frames) i .count) (frameAt (p .frames) j .count))
+    (ltb (distance p i) (distance p j))
+    (ltb (frameAt (p .frames) i .count) (frameAt (p .frames) j .count))
+
+-- LRU by last step; WATT by value over all frames, then frame number; clock by count and distance
+unfoldable pub batchOrder : Pool → ℕ → ℕ → Bool
+batchOrder p i j = byRule (p .settings .rule) (older (p .frames) i j) (sooner p i j) (lessValue p i j)
+
+-- the other dirty unpinned frames, beside victim v
+abbrev pub waits : Pool → ℕ → ℕ → Bool
+waits p v i = (frameAt (p .frames) i .dirty && unpinned (p .frames) i) && not (eqb v i)
+
+-- a clean victim writes nothing; a dirty victim comes first, and after it the others until the batch size is reached or they end
+unfoldable pub batchOf : Pool → ℕ → List ℕ
+batchOf p v = pick (frameAt (p .frames) v .dirty) (v ∷ othersTo (waits p v) (batchOrder p) (p .settings .frames) (p .settings .batch - 1)) []
+
+abbrev pub cleanFrame : Frame → Frame
+cleanFrame fr = record { used = fr .used; page = fr .page; dirty = false; pins = fr .pins; count = fr .count; last = fr .last; accesses = fr .accesses; writes = fr .writes }
+
+-- all batch pages become clean
+unfoldable pub cleaned : List Frame → List ℕ → List Frame
+cleaned fs [] = fs
+cleaned fs (i ∷ is) = cleaned (set fs i (cleanFrame (frameAt fs i))) is
+
+-- the pages written, in order
+unfoldable pub pagesOf : List Frame → List ℕ → List ℕ
+pagesOf fs is = map (λ i. frameAt fs i .page) is

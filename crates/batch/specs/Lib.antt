@@ -1,0 +1,4 @@
+pub mod Taken
+pub mod Batch
+pub mod Ranks
+pub mod Written

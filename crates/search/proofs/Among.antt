@@ -1,0 +1,31 @@
+-- Laws of the numbers in a list: facts of all of them, and one more at the end.
+use mathlib.Core.Path.{_≡_, refl, ap, sym, _∙_}
+use mathlib.Core.Bool.{Bool, true, false, _||_, or-assoc, or-false}
+use mathlib.Core.List.{List, [], _∷_, _++_}
+use Prim.Native.Nat.{ℕ}
+use lib.Dec.{eqb}
+use Rattle.search.specs.Search.{among}
+
+pub among-snoc : (xs : List ℕ) (y i : ℕ) → among (xs ++ (y ∷ [])) i ≡ (among xs i || eqb y i)
+unfolding among
+among-snoc [] y i = or-false (eqb y i)
+among-snoc (x ∷ xs) y i = ap (λ (b : Bool). eqb x i || b) (among-snoc xs y i) ∙ sym (or-assoc (eqb x i) (among xs i) (eqb y i))
+
+-- what holds of every number of a list
+unfoldable pub All : (ℕ → Type 0) → List ℕ → Type 0
+All P [] = Unit {0}
+All P (x ∷ xs) = P x × All P xs
+
+pub all-none : (P : ℕ → Type 0) → All P []
+unfolding All
+all-none P = tt
+
+pub all-snoc : (P : ℕ → Type 0) (xs : List ℕ) (y : ℕ) → All P xs → P y → All P (xs ++ (y ∷ []))
+unfolding All
+all-snoc P [] y a h = (h, tt)
+all-snoc P (x ∷ xs) y a h = (a .0, all-snoc P xs y (a .1) h)
+
+pub all-map : (P Q : ℕ → Type 0) (xs : List ℕ) → ((x : ℕ) → P x → Q x) → All P xs → All Q xs
+unfolding All
+all-map P Q [] f a = tt
+all-map P Q (x ∷ xs) f a = (f x (a .0), all-map P Q xs f (a .1))

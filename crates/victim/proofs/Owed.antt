@@ -1,0 +1,85 @@
+-- What every rule owes: the words in which its laws are stated, and what they share.
+use mathlib.Core.Path.{_≡_, refl, ap, sym, _∙_}
+use mathlib.Core.Bool.{true, false}
+use mathlib.Core.List.{List, [], _∷_, map}
+use Prim.Native.Nat.{ℕ, zero, suc, _≤_, _<_}
+use native.Mathlib.Omega.{arith}
+use lib.ListN.{set, List·getD-map}
+use Rattle.search.specs.declared.Found.the-variants.{At, Nothing}
+use Rattle.search.specs.Search.{pick}
+use Rattle.pool.specs.declared.Frame.{Frame}
+use Rattle.pool.specs.declared.Pool.{Pool}
+use Rattle.pool.specs.Pool.{frameAt, emptyFrame, withCount}
+use Rattle.pool.proofs.Sound.{Sound}
+use Rattle.pool.proofs.Quiet.{Alike, Quiet}
+use Rattle.victim.specs.declared.Choice.{Choice}
+use Rattle.victim.specs.Choice.{unpinned, leftBy}
+
+-- every frame below f is pinned
+abbrev pub AllPinned : Pool → Type 0
+AllPinned p = (i : ℕ) → i < p .settings .frames → unpinned (p .frames) i ≡ false
+
+-- a frame with its page renamed; one not in use is left alone
+abbrev pub repaged : (ℕ → ℕ) → Frame → Frame
+repaged ρ fr = record { used = fr .used; page = pick (fr .used) (ρ (fr .page)) (fr .page); dirty = fr .dirty; pins = fr .pins; count = fr .count; last = fr .last; accesses = fr .accesses; writes = fr .writes }
+
+abbrev pub repagedPool : (ℕ → ℕ) → Pool → Pool
+repagedPool ρ p = record { settings = p .settings; k = p .k; hand = p .hand; sampler = p .sampler; frames = map (repaged ρ) (p .frames); access = p .access; write = p .write }
+
+abbrev pub repagedChoice : (ℕ → ℕ) → Choice → Choice
+repagedChoice ρ c = record { found = c .found; hand = c .hand; sampler = c .sampler; frames = map (repaged ρ) (c .frames) }
+
+pub frame-repaged : (ρ : ℕ → ℕ) (fs : List Frame) (i : ℕ) → frameAt (map (repaged ρ) fs) i ≡ repaged ρ (frameAt fs i)
+frame-repaged ρ fs i = List·getD-map (repaged ρ) fs i emptyFrame
+
+pub map-set {ℓ} : {A B : Type ℓ} (f : A → B) (l : List A) (i : ℕ) (a : A) → set (map f l) i (f a) ≡ map f (set l i a)
+map-set f [] i a = refl
+map-set f (x ∷ xs) zero a = refl
+map-set {B = B} f (x ∷ xs) (suc i) a = ap (λ (r : List B). f x ∷ r) (map-set f xs i a)
+
+-- a frame after: as before but for its count, which is not raised
+pub record Lowered (fr g : Frame) : Type 0 where
+  pub kept : g ≡ withCount fr (g .count)
+  pub low : g .count ≤ fr .count
+
+pub lowered-same : (fr : Frame) → Lowered fr fr
+lowered-same fr = record { kept = refl; low = omega arith }
+
+pub lowered-more : (fr g h : Frame) → Lowered fr g → Lowered g h → Lowered fr h
+lowered-more fr g h a b = let x = a .low in let y = b .low in record { kept = b .kept ∙ ap (λ (z : Frame). withCount z (h .count)) (a .kept); low = omega arith }
+
+-- What each rule owes, one list for all.
+pub record Owes (choose : Pool → Choice) : Type 0 where
+  pub unpinned : (p : Pool) (v : ℕ) → Sound p → choose p .found ≡ At v → (v < p .settings .frames) × (unpinned (p .frames) v ≡ true)
+  pub none : (p : Pool) → (choose p .found ≡ Nothing → AllPinned p) × (AllPinned p → choose p .found ≡ Nothing)
+  pub keeps : (p : Pool) (i : ℕ) → frameAt (choose p .frames) i ≡ withCount (frameAt (p .frames) i) (frameAt (choose p .frames) i .count)
+  pub quiet : (p : Pool) → Sound p → Quiet p (leftBy p (choose p))
+  pub sound : (p : Pool) → Sound p → Sound (leftBy p (choose p))
+  pub pages : (ρ : ℕ → ℕ) (p : Pool) → choose (repagedPool ρ p) ≡ repagedChoice ρ (choose p)
+
+-- a choice that only lowers counts, its hand below f, is a quiet change of a sound pool
+module _ (p : Pool) (sound : Sound p) (c : Choice) (on : c .hand < p .settings .frames) (lowers : (i : ℕ) → Lowered (frameAt (p .frames) i) (frameAt (c .frames) i)) where
+  same : {A : Type 0} (field : Frame → A) (i : ℕ) → field (frameAt (c .frames) i) ≡ field (withCount (frameAt (p .frames) i) (frameAt (c .frames) i .count))
+  same field i = ap field (lowers i .kept)
+
+  still : (i : ℕ) → i < 128 → frameAt (p .frames) i .used ≡ false → frameAt (c .frames) i ≡ frameAt (p .frames) i
+  still i l e =
+      let z : frameAt (p .frames) i .count ≡ 0 = ap (λ (fr : Frame). fr .count) (sound .frame i l .zero e) in
+      let y = lowers i .low in
+      let x : frameAt (c .frames) i .count ≡ frameAt (p .frames) i .count = omega arith in
+      lowers i .kept ∙ ap (withCount (frameAt (p .frames) i)) x
+
+  alike : (i : ℕ) → i < 128 → Alike (p .settings .cap) (frameAt (p .frames) i) (frameAt (c .frames) i)
+  alike i l = record {
+    used = same (λ fr. fr .used) i;
+    page = same (λ fr. fr .page) i;
+    last = same (λ fr. fr .last) i;
+    accesses = same (λ fr. fr .accesses) i;
+    writes = same (λ fr. fr .writes) i;
+    dirty = λ d. sym (same (λ fr. fr .dirty) i) ∙ d;
+    count = let x = lowers i .low in let y = sound .frame i l .capped in omega arith;
+    still = still i l;
+  }
+
+  pub quiet-of : Quiet p (leftBy p c)
+  quiet-of = record { settings = refl; k = refl; access = refl; write = refl; hand = on; frame = alike }

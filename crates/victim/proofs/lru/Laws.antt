@@ -1,0 +1,64 @@
+-- What LRU owes.
+use mathlib.Core.Path.{_≡_, refl, ap}
+use mathlib.Core.Bool.{true}
+use mathlib.Core.List.{List, map}
+use Prim.Native.Nat.{ℕ, _≤_, _<_}
+use lib.Dec.{eqb}
+use borrow.Author.Tests.{ltb-false}
+use Rattle.search.specs.declared.Found.the-variants.{At, Nothing}
+use Rattle.search.proofs.Least.{least-sound, least-none, least-none-of, least-cong, least-least, by-key}
+use Rattle.pool.specs.declared.Frame.{Frame}
+use Rattle.pool.specs.declared.Pool.{Pool}
+use Rattle.pool.specs.Pool.{frameAt, withCount}
+use Rattle.pool.proofs.Sound.{Sound}
+use Rattle.pool.proofs.Quiet.{Quiet, sound-quiet}
+use Rattle.victim.specs.Choice.{unpinned, unmoved, leftBy}
+use Rattle.victim.specs.Lru.{older, lruVictim, lruChoice}
+use Rattle.victim.proofs.Owed.{AllPinned, repaged, repagedPool, repagedChoice, frame-repaged, lowered-same, quiet-of, Owes}
+
+-- its victim lies below f and is unpinned
+pub lru-unpinned : (p : Pool) (v : ℕ) → Sound p → lruChoice p .found ≡ At v → (v < p .settings .frames) × (unpinned (p .frames) v ≡ true)
+unfolding lruChoice lruVictim
+lru-unpinned p v sound h = least-sound (unpinned (p .frames)) (older (p .frames)) (p .settings .frames) v h
+
+-- it finds none exactly where every frame below f is pinned
+pub lru-none : (p : Pool) → (lruChoice p .found ≡ Nothing → AllPinned p) × (AllPinned p → lruChoice p .found ≡ Nothing)
+unfolding lruChoice lruVictim
+lru-none p =
+    (λ h i l. least-none (unpinned (p .frames)) (older (p .frames)) (p .settings .frames) i h l, least-none-of (unpinned (p .frames)) (older (p .frames)) (p .settings .frames))
+
+-- it keeps of each frame all but the count
+pub lru-keeps : (p : Pool) (i : ℕ) → frameAt (lruChoice p .frames) i ≡ withCount (frameAt (p .frames) i) (frameAt (lruChoice p .frames) i .count)
+unfolding lruChoice
+lru-keeps p i = refl
+
+-- it changes nothing but hand, sampler number and clock counts
+pub lru-quiet : (p : Pool) → Sound p → Quiet p (leftBy p (lruChoice p))
+unfolding lruChoice
+lru-quiet p s = quiet-of p s (lruChoice p) (s .hand) (λ i. lowered-same (frameAt (p .frames) i))
+
+-- what it leaves is sound
+pub lru-sound : (p : Pool) → Sound p → Sound (leftBy p (lruChoice p))
+lru-sound p s = sound-quiet p (leftBy p (lruChoice p)) s (lru-quiet p s)
+
+-- it does not look at page numbers
+victim-repaged : (ρ : ℕ → ℕ) (fs : List Frame) (f : ℕ) → lruVictim (map (repaged ρ) fs) f ≡ lruVictim fs f
+unfolding lruVictim
+victim-repaged ρ fs f =
+    least-cong (unpinned (map (repaged ρ) fs)) (unpinned fs) (older (map (repaged ρ) fs)) (older fs) f
+    (λ j _. ap (λ (fr : Frame). eqb (fr .pins) 0) (frame-repaged ρ fs j))
+    (λ i j _ _. rw (frame-repaged ρ fs i, frame-repaged ρ fs j))
+
+pub lru-pages : (ρ : ℕ → ℕ) (p : Pool) → lruChoice (repagedPool ρ p) ≡ repagedChoice ρ (lruChoice p)
+unfolding lruChoice
+lru-pages ρ p = ap (unmoved (repagedPool ρ p)) (victim-repaged ρ (p .frames) (p .settings .frames))
+
+pub lru-owes : Owes lruChoice
+lru-owes = record { unpinned = lru-unpinned; none = lru-none; keeps = lru-keeps; quiet = lru-quiet; sound = lru-sound; pages = lru-pages }
+
+-- no unpinned frame below f has a smaller last step than the victim
+pub lru-least : (p : Pool) (v j : ℕ) → lruChoice p .found ≡ At v → j < p .settings .frames → unpinned (p .frames) j ≡ true → frameAt (p .frames) v .last ≤ frameAt (p .frames) j .last
+unfolding lruChoice lruVictim
+lru-least p v j h l t =
+    ltb-false (frameAt (p .frames) j .last) (frameAt (p .frames) v .last)
+    (least-least (unpinned (p .frames)) (older (p .frames)) (by-key (λ i. frameAt (p .frames) i .last)) (p .settings .frames) v j h l t)

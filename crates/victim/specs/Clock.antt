@@ -1,0 +1,58 @@
+-- Generalised clock.
+use Prim.Native.Nat.{ℕ, zero, suc, _+_, _-_, _*_}
+use mathlib.Core.Bool.{Bool, true, false, _&&_}
+use mathlib.Core.List.{List}
+use lib.ListN.{set}
+use lib.Dec.{eqb, ltb}
+use Rattle.search.specs.declared.Found.{Found}
+use Rattle.search.specs.declared.Found.the-variants.{At, Nothing}
+use Rattle.search.specs.Search.{pick, onFound, never, leastBelow}
+use Rattle.pool.specs.declared.Frame.{Frame}
+use Rattle.pool.specs.declared.Pool.{Pool}
+use Rattle.pool.specs.Pool.{frameAt, withCount}
+use Rattle.victim.specs.declared.Choice.{Choice}
+use Rattle.victim.specs.Choice.{unpinned, unmoved}
+
+-- it rests on a frame with count 0, the victim; victims are always unpinned
+abbrev pub rests : Frame → Bool
+rests fr = eqb (fr .pins) 0 && eqb (fr .count) 0
+
+-- a pinned frame is passed untouched; a count above 0 is lowered by 1 and passed
+abbrev pub passedFrame : Frame → Frame
+passedFrame fr = withCount fr (pick (eqb (fr .pins) 0) (fr .count - 1) (fr .count))
+
+-- the frames when the hand has passed frame h
+abbrev pub passed : List Frame → ℕ → List Frame
+passed fs h = set fs h (passedFrame (frameAt fs h))
+
+-- upward, from f − 1 back to 0
+abbrev pub nextHand : ℕ → ℕ → ℕ
+nextHand f h = pick (ltb (h + 1) f) (h + 1) 0
+
+-- the hand goes on until it rests, n frames visited at most: where it is then, and the frames
+unfoldable pub sweepFrom : ℕ → ℕ → ℕ → List Frame → ℕ × List Frame
+sweepFrom zero f h fs = (h, fs)
+sweepFrom (suc n) f h fs = let r = sweepFrom n f (nextHand f h) (passed fs h) in pick (rests (frameAt fs h)) (h, fs) r
+
+-- from the hand; this takes at most f × (cap + 1) frames visited
+unfoldable pub sweepOf : Pool → ℕ × List Frame
+sweepOf p = sweepFrom (p .settings .frames * (p .settings .cap + 1)) (p .settings .frames) (p .hand) (p .frames)
+
+-- it rests on the victim, and then moves one past it
+abbrev pub restedAt : Pool → ℕ × List Frame → Choice
+restedAt p r = record { found = At (r .0); hand = nextHand (p .settings .frames) (r .0); sampler = p .sampler; frames = r .1 }
+
+unfoldable pub sweptChoice : Pool → Choice
+sweptChoice p = restedAt p (sweepOf p)
+
+-- the lowest unpinned frame below f
+unfoldable pub anyUnpinned : List Frame → ℕ → Found
+anyUnpinned fs f = leastBelow (unpinned fs) never f
+
+-- whether some frame below f is unpinned
+abbrev pub someUnpinned : Pool → Bool
+someUnpinned p = onFound (anyUnpinned (p .frames) (p .settings .frames)) (λ i. true) false
+
+-- the sweep's victim; none, and nothing changed, where every frame below f is pinned
+unfoldable pub clockChoice : Pool → Choice
+clockChoice p = pick (someUnpinned p) (sweptChoice p) (unmoved p Nothing)

@@ -1,0 +1,5 @@
+pub mod Choice
+pub mod Lru
+pub mod Clock
+pub mod Watt
+pub mod Rules

@@ -1,0 +1,124 @@
+// WATT: the drawn unpinned frame of least value.
+use super::Choice;
+use pool::Pool;
+use search::Found;
+use worth::Fraction;
+ghost use mathlib.Core.Path.{_≡_};
+ghost use mathlib.Core.Bool.{true, false};
+ghost use Prim.Native.Nat.{ℕ, _%_, _<_, _≤_};
+ghost use lib.ListN.{getD};
+ghost use Rattle.search.specs.Search.{onFound, among};
+ghost use Rattle.worth.specs.Value.{lessFraction};
+ghost use Rattle.worth.specs.Sizes.{Small};
+ghost use Rattle.pool.specs.Pool.{nowOf};
+ghost use Rattle.pool.specs.Sound.{soundPool};
+ghost use Rattle.victim.specs.Watt.{nextSampler, samplerAfter, draws, valueAt, leastValue, wattChoice};
+
+// The sampler number after some draws, and which frames they named.
+struct Draws {
+    sampler: u32,
+    marks: [bool; 128],
+}
+
+fn next_sampler(s: u32) -> u32
+    ensures { λ r. ⌜ r ≡ nextSampler s ⌝ }
+{
+    std::num::wrapping_add_u32(s, 2654435769)
+}
+
+// The frame that a sampler number names: its remainder by f.
+fn named(s: u32, f: u16) -> usize
+    requires { ⌜ (0 < f) × (f ≤ 128) ⌝ }
+    ensures { λ r. ⌜ (r ≡ s % f) × (r < 128) ⌝ }
+{
+    (s % (f as u32)) as usize
+}
+
+// One draw per unit of sample size.
+fn drawn(sampler: u32, f: u16, sample: u16) -> Draws
+    requires { ⌜ (0 < f) × (f ≤ 128) ⌝ }
+    ensures { λ r. ⌜ (r .sampler ≡ samplerAfter sampler sample)
+        × ((i : ℕ) → i < 128 → getD (r .marks) i false ≡ among (draws sampler f sample) i) ⌝ }
+{
+    let mut s = sampler;
+    let mut marks = [false; 128];
+    let mut n: u16 = 0;
+    while n < sample {
+        let next = next_sampler(s);
+        let at = named(next, f);
+        marks[at] = true;
+        s = next;
+        n += 1;
+    }
+    Draws {
+        sampler: s,
+        marks: marks,
+    }
+}
+
+// The value of frame i.
+pub fn value_at(p: Pool, i: usize, epoch: u32) -> Fraction
+    requires { ⌜ (soundPool p ≡ true) × (i < 128) × (epoch ≡ nowOf p) ⌝ }
+    ensures { λ r. ⌜ r ≡ valueAt p i ⌝ }
+{
+    let fr = p.frames[i];
+    let access = worth::log_worth(&p.access, i * 8, fr.accesses as usize, epoch);
+    let write = worth::log_worth(&p.write, i * 4, fr.writes as usize, epoch);
+    worth::value(access, write, p.settings.weight)
+}
+
+// Whether a frame of value v takes the place of the best so far, whose value is low: on a tie it does not.
+fn beats(v: Fraction, best: Found, low: Fraction) -> bool
+    requires { ⌜ Small v × Small low ⌝ }
+    ensures { λ r. ⌜ r ≡ onFound best (λ _. lessFraction v low) true ⌝ }
+{
+    match best {
+        Found::Nothing => true,
+        Found::At(_) => worth::less(v, low),
+    }
+}
+
+// The marked unpinned frame of least value, the lowest on a tie. A value is found once, and only for such a frame.
+fn least(p: Pool, marks: [bool; 128], epoch: u32) -> Found
+    requires { ⌜ (soundPool p ≡ true) × (epoch ≡ nowOf p) ⌝ }
+    ensures { λ r. ⌜ r ≡ leastValue p (λ i. getD marks i false) ⌝ }
+{
+    let f = p.settings.frames as usize;
+    let mut best = Found::Nothing;
+    let mut low = Fraction { num: 0, den: 1 };
+    let mut i: usize = 0;
+    while i < f {
+        let fr = p.frames[i];
+        if marks[i] & (fr.pins == 0) {
+            let v = value_at(p, i, epoch);
+            if beats(v, best, low) {
+                best = Found::At(i);
+                low = v;
+            }
+        }
+        i += 1;
+    }
+    best
+}
+
+// The victim, and the sampler number after the draws. If every drawn frame is pinned, all frames count as drawn.
+pub fn choose(p: Pool) -> Choice
+    requires { ⌜ soundPool p ≡ true ⌝ }
+    ensures { λ r. ⌜ r ≡ wattChoice p ⌝ }
+{
+    let epoch = pool::now_of(p);
+    let d = drawn(p.sampler, p.settings.frames, p.settings.sample);
+    let marks = d.marks;
+    let mut found = least(p, marks, epoch);
+    if let Found::Nothing = found {
+        let every = [true; 128];
+        found = least(p, every, epoch);
+    }
+    let frames = p.frames;
+    Choice {
+        found: found,
+        hand: p.hand,
+        sampler: d.sampler,
+        frames: frames,
+    }
+}
