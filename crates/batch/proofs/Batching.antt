@@ -1,6 +1,6 @@
 -- The loop that takes the others: what holds after n of them, its start, its turn and its two ends.
 use mathlib.Core.Path.{_≡_, refl, ap, sym, subst, _∙_}
-use mathlib.Core.Bool.{Bool, true, false, _&&_, _||_, not, and-false, or-true, or-false}
+use mathlib.Core.Bool.{Bool, true, false, _&&_, not, and-false, or-true, or-false}
 use mathlib.Core.List.{List, [], _∷_, _++_}
 use Prim.Native.Nat.{ℕ, zero, suc, _+_, _-_, _≤_, _<_}
 use native.Mathlib.Omega.{arith}
@@ -10,7 +10,6 @@ use lib.ListN.{length, getD, set, length-append}
 use lib.Seq.{sets, getD-set-same, getD-set-other}
 use lib.Dec.{eqb}
 use borrow.Author.Tests.{eqb-true, eqb-false}
-use Rattle.search.specs.declared.Found.{Found}
 use Rattle.search.specs.declared.Found.the-variants.{At, Nothing}
 use Rattle.search.specs.Search.{leastBelow, among}
 use Rattle.search.proofs.Least.{least-sound, least-cong}
@@ -19,7 +18,6 @@ use Rattle.worth.specs.declared.Fraction.{Fraction}
 use Rattle.worth.specs.Value.{lessFraction}
 use Rattle.pool.specs.declared.Frame.{Frame}
 use Rattle.pool.specs.Pool.{frameAt}
-use Rattle.batch.specs.declared.Written.{Written}
 use Rattle.batch.specs.Taken.{left, oneMore, othersTo}
 use Rattle.batch.specs.Batch.{cleanFrame, cleaned, pagesOf}
 use Rattle.batch.specs.Ranks.{rankAt}

@@ -1,16 +1,15 @@
 -- What a batch is: the victim first, then exactly the least of the other dirty unpinned frames; and what it leaves.
-use mathlib.Core.Path.{_≡_, refl, ap, sym, subst, _∙_}
-use mathlib.Core.Bool.{Bool, true, false, _&&_, not, true≢false}
+use mathlib.Core.Path.{_≡_, refl, ap, sym, _∙_}
+use mathlib.Core.Bool.{Bool, true, false, true≢false}
 use mathlib.Core.List.{List, [], _∷_}
 use mathlib.Core.Logic.{_⊎_, ⊎-elim}
-use Prim.Native.Nat.{ℕ, zero, suc, _+_, _-_, _*_, _≤_, _<_}
+use Prim.Native.Nat.{ℕ, zero, _+_, _-_, _*_, _≤_}
 use native.Mathlib.Omega.{arith}
 use lib.ListN.{length}
 use Rattle.search.specs.Search.{pick, among}
 use Rattle.search.proofs.Least.{Order}
 use Rattle.search.proofs.Every.{pick-ind}
-use Rattle.worth.specs.declared.Fraction.{Fraction}
-use Rattle.worth.specs.Value.{fraction, lessFraction}
+use Rattle.worth.specs.Value.{fraction}
 use Rattle.worth.proofs.Order.{Proper, less-asym, less-weak}
 use Rattle.settings.proofs.Laws.{ranges}
 use Rattle.pool.specs.declared.Frame.{Frame}
@@ -21,11 +20,11 @@ use Rattle.pool.proofs.Quiet.{Alike, Quiet, sound-quiet}
 use Rattle.victim.specs.Watt.{valueAt}
 use Rattle.victim.proofs.Rules.{by-rule}
 use Rattle.victim.proofs.watt.Values.{value-positive}
-use Rattle.batch.specs.Taken.{left, othersTo}
+use Rattle.batch.specs.Taken.{othersTo}
 use Rattle.batch.specs.Batch.{distance, batchOrder, waits, batchOf, cleanFrame, cleaned}
 use Rattle.batch.specs.Ranks.{rankOf}
 use Rattle.batch.proofs.Ranks.{rank-order}
-use Rattle.batch.proofs.Taken.{Before, Sorted, Chosen, chosen, Enough, enough}
+use Rattle.batch.proofs.Taken.{Chosen, chosen, Enough, enough}
 use Rattle.batch.proofs.Cleaned.{cleaned-at}
 
 -- the pool with other frames

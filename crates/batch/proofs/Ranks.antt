@@ -12,7 +12,6 @@ use lib.Dec.{eqb, ltb}
 use borrow.Author.Tests.{eqb-true, eqb-false, lt-ltb, ltb-true}
 use Rattle.search.specs.Search.{pick}
 use Rattle.search.proofs.Every.{same-test}
-use Rattle.search.proofs.Least.{Order, by-key}
 use Rattle.worth.specs.declared.Fraction.{Fraction}
 use Rattle.worth.specs.Value.{fraction, lessFraction}
 use Rattle.worth.specs.Sizes.{Small}
@@ -24,7 +23,7 @@ use Rattle.victim.specs.Watt.{valueAt, lessValue}
 use Rattle.victim.specs.Rules.{byRule}
 use Rattle.victim.specs.Lru.{older}
 use Rattle.victim.proofs.Rules.{by-rule, rule-rest}
-use Rattle.victim.proofs.watt.Values.{value-fits, watt-order}
+use Rattle.victim.proofs.watt.Values.{value-fits}
 use Rattle.batch.specs.Batch.{distance, sooner, batchOrder, waits}
 use Rattle.batch.specs.Ranks.{rankOf, rankWhere, RankedTo}
 

@@ -4,17 +4,17 @@ use mathlib.Core.Path.{_≡_, refl, ap, sym, subst, _∙_}
 use mathlib.Core.Bool.{Bool, true, false, _&&_, _||_, not, true≢false, and-eq-true-iff}
 use mathlib.Core.List.{List, [], _∷_, _++_}
 use mathlib.Core.Logic.{_⊎_, inl, inr, ⊎-elim}
-use Prim.Native.Nat.{ℕ, zero, suc, _+_, _≤_, _<_}
+use Prim.Native.Nat.{ℕ, zero, suc, _+_, _<_}
 use native.Mathlib.Omega.{arith}
 use lib.ListN.{length, length-append}
 use lib.Dec.{eqb}
-use borrow.Author.Tests.{eqb-true, eqb-false, eq-eqb}
+use borrow.Author.Tests.{eqb-false}
 use Rattle.search.specs.declared.Found.{Found}
 use Rattle.search.specs.declared.Found.the-variants.{At, Nothing}
 use Rattle.search.specs.Search.{onFound, leastBelow, among}
 use Rattle.search.proofs.Least.{Order, least-sound, least-none, least-least, least-lowest}
 use Rattle.search.proofs.Every.{denied}
-use Rattle.search.proofs.Among.{All, all-none, all-snoc, all-map, among-snoc}
+use Rattle.search.proofs.Among.{All, all-none, all-snoc, among-snoc}
 use Rattle.batch.specs.Taken.{left, oneMore, othersTo}
 
 -- t comes before i in the order, the lower number on a tie

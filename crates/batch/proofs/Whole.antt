@@ -1,15 +1,14 @@
 -- The whole batch: the victim first, then the others that the ranks name, which are those of the batch order.
-use mathlib.Core.Path.{_≡_, refl, ap, sym, subst, _∙_}
+use mathlib.Core.Path.{_≡_, refl, ap, _∙_}
 use mathlib.Core.Bool.{Bool, true, false, _&&_, not, and-eq-true-iff}
 use mathlib.Core.List.{List, [], _∷_, _++_}
 use Prim.Native.Nat.{ℕ, zero, suc, _+_, _-_, _≤_, _<_}
 use native.Mathlib.Omega.{arith}
 use native.Mathlib.Numerals.{add-one}
 use lib.ListN.{length, getD, set, length-set}
-use lib.Seq.{sets, length-sets}
+use lib.Seq.{length-sets}
 use Rattle.search.specs.declared.Found.{Found}
-use Rattle.search.specs.declared.Found.the-variants.{At, Nothing}
-use Rattle.search.specs.Search.{pick, onFound, leastBelow, among}
+use Rattle.search.specs.Search.{onFound, leastBelow, among}
 use Rattle.search.proofs.Least.{least-cong-on}
 use Rattle.search.proofs.Every.{pick-ind}
 use Rattle.worth.specs.declared.Fraction.{Fraction}

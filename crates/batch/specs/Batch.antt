@@ -1,6 +1,6 @@
 -- Batch: its order under each rule, its frames, and what is written and left.
 use Prim.Native.Nat.{ℕ, _+_, _-_, _%_}
-use mathlib.Core.Bool.{Bool, true, false, _&&_, not}
+use mathlib.Core.Bool.{Bool, false, _&&_, not}
 use mathlib.Core.List.{List, [], _∷_, map}
 use lib.ListN.{set}
 use lib.Dec.{eqb, ltb}

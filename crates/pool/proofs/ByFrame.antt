@@ -2,18 +2,20 @@
 use mathlib.Core.Path.{_≡_, refl, ap, sym, _∙_}
 use mathlib.Core.Bool.{Bool, true, false, _&&_, _||_, not, true≢false}
 use Prim.Native.Nat.{ℕ, _*_, _<_}
+use native.Mathlib.Omega.{arith}
 use lib.Dec.{eqb, ltb, leb}
 use borrow.Author.Tests.{ne-eqb, eqb-false, lt-ltb, ltb-true, le-leb, leb-true}
 use Rattle.search.specs.Search.{pick, everyBelow}
 use Rattle.search.proofs.Every.{same-test, every-at, every-of, denied}
 use Rattle.refusal.specs.Refusals.{demand, notSound}
+use Rattle.refusal.proofs.Laws.{met}
 use Rattle.settings.specs.Settings.{inRange}
 use Rattle.pool.specs.declared.Frame.{Frame}
 use Rattle.pool.specs.declared.Pool.{Pool}
-use Rattle.pool.specs.Pool.{referenceLimit, frameAt, emptyFrame, lastEpochOf}
-use Rattle.pool.specs.Sound.{zeroFrame, countCapped, accessLogSound, writeLogSound, soundPool, checkOf}
-use Rattle.pool.specs.ByFrame.{pairSound, pairAt, pairsSound, fieldsSound, besideSound, logsSound, frameSound}
-use Rattle.pool.proofs.Sound.{both, and-of, or-right, zero-empty, log-told, SoundFrame, Sound, told, made, capped-of, access-of, write-of}
+use Rattle.pool.specs.Pool.{referenceLimit, frameAt, emptyFrame, epochAt, lastEpochOf}
+use Rattle.pool.specs.Sound.{soundLog, zeroFrame, countCapped, accessLogSound, writeLogSound, soundPool, checkOf}
+use Rattle.pool.specs.ByFrame.{pairAt, pairsSound, fieldsSound, besideSound, frameSound}
+use Rattle.pool.proofs.Sound.{both, or-right, zero-empty, log-told, SoundFrame, told, made, capped-of, access-of, write-of}
 
 -- two numbers that are tested to differ
 differ : (x y : ℕ) → not (eqb x y) ≡ true → x ≡ y → ⊥
@@ -105,12 +107,12 @@ module _ (p : Pool) (i : ℕ) where
       go false e = ap zeroFrame (s .zero e)
 
   one-told : frameSound p i ≡ true → SoundFrame p i
-  unfolding frameSound logsSound
+  unfolding frameSound
   one-told h =
-      let a = both (countCapped p i) (besideSound p i && logsSound p i) h in
-      let b = both (besideSound p i) (logsSound p i) (a .1) in
+      let b = both (countCapped p i && besideSound p i) (accessLogSound p i && writeLogSound p i) h in
+      let a = both (countCapped p i) (besideSound p i) (b .0) in
       let c = both (accessLogSound p i) (writeLogSound p i) (b .1) in
-      let t = beside-told (b .0) in record {
+      let t = beside-told (a .1) in record {
         lowest = λ e j l. t .pair e j l .used;
         within = t .within;
         pages = λ e j l. t .pair e j l .page;
@@ -125,8 +127,16 @@ module _ (p : Pool) (i : ℕ) where
       }
 
   one-of : SoundFrame p i → frameSound p i ≡ true
-  unfolding frameSound logsSound
+  unfolding frameSound
   one-of s = rw (capped-of p i s, beside-of s, access-of p i s, write-of p i s)
+
+-- a frame's test, as the loop puts it together
+pub frame-tested : (p : Pool) (i : ℕ) (beside access write : Bool) → beside ≡ besideSound p i
+    → access ≡ soundLog (p .access) (i * 8) 8 (frameAt (p .frames) i .accesses) (epochAt (p .settings) (frameAt (p .frames) i .last))
+    → write ≡ soundLog (p .write) (i * 4) 4 (frameAt (p .frames) i .writes) (epochAt (p .settings) (frameAt (p .frames) i .last))
+    → (b : Bool) → ((countCapped p i && beside) && (access && write)) ≡ b → frameSound p i ≡ b
+unfolding frameSound lastEpochOf
+frame-tested p i beside access write x y z b h = sym (rw (x, y, z)) ∙ h
 
 -- soundness is what the check tests
 abbrev pub byFrame : Pool → Bool
@@ -153,3 +163,8 @@ check-ranged p framed r e d h = rw (h, d) (ap (λ (b : Bool). demand b notSound 
 pub check-outside : (p : Pool) → inRange (p .settings) ≡ false → notSound ≡ checkOf p
 unfolding checkOf soundPool
 check-outside p e = rw e
+
+-- a pool that the check does not refuse is sound
+pub passed-sound : (p : Pool) → checkOf p ≡ 0 → soundPool p ≡ true
+unfolding checkOf
+passed-sound p h = met (soundPool p) notSound 0 (omega arith) h .0

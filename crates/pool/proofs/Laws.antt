@@ -1,12 +1,12 @@
 -- Laws that the pool's functions cite.
-use mathlib.Core.Path.{_≡_, refl, ap, sym, _∙_}
+use mathlib.Core.Path.{_≡_, ap, sym, _∙_}
 use mathlib.Core.Bool.{Bool, true, false, _&&_, and-false, and-true}
 use mathlib.Core.List.{List}
 use Prim.Native.Nat.{ℕ, _+_, _-_, _<_}
 use native.Mathlib.Omega.{arith}
 use lib.ListN.{getD}
 use lib.Dec.{leb}
-use Rattle.search.specs.Search.{pick, everyBelow}
+use Rattle.search.specs.Search.{everyBelow}
 use Rattle.search.proofs.Every.{every-fails}
 use Rattle.refusal.specs.Refusals.{outOfRange}
 use Rattle.settings.specs.declared.Settings.{Settings}

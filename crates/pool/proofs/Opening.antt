@@ -1,20 +1,18 @@
 -- A fresh pool is sound.
-use mathlib.Core.Path.{_≡_, refl, ap, sym, subst, _∙_}
+use mathlib.Core.Path.{_≡_, refl, ap, sym, _∙_}
 use mathlib.Core.Bool.{true, false, true≢false}
 use Prim.Native.Nat.{ℕ, _+_, _*_, _≤_, _<_}
 use native.Mathlib.Omega.{arith}
-use lib.ListN.{length, getD, replicate, getD-replicate, length-replicate}
+use lib.ListN.{replicate, getD-replicate}
 use Rattle.settings.specs.declared.Settings.{Settings}
 use Rattle.settings.specs.Settings.{inRange}
 use Rattle.settings.proofs.Laws.{ranges}
 use Rattle.search.proofs.Every.{pick-ind}
 use Rattle.pool.specs.declared.Frame.{Frame}
-use Rattle.pool.specs.declared.Pool.{Pool}
 use Rattle.pool.specs.declared.Opened.{Opened}
 use Rattle.pool.specs.Pool.{emptyFrame, frameAt, oneFrame, emptyPool, opened, freshOf, lastEpochOf}
 use Rattle.pool.specs.Sound.{soundPool}
 use Rattle.pool.proofs.Sound.{Logged, SoundFrame, Sound, made}
-use Rattle.pool.proofs.Sizes.{Sized}
 
 -- no entries in places that are all zero
 no-entries : (n at room e : ℕ) → at + room ≤ n → Logged (replicate n 0) at room 0 e

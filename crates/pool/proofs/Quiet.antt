@@ -1,14 +1,12 @@
 -- Changes that touch no page, last step or log: counts, pins and dirtiness, the hand and the sampler.
-use mathlib.Core.Path.{_≡_, refl, ap, sym, subst, _∙_}
-use mathlib.Core.Bool.{Bool, true, false, true≢false}
+use mathlib.Core.Path.{_≡_, sym, _∙_}
+use mathlib.Core.Bool.{true, false}
 use mathlib.Core.List.{List}
-use Prim.Native.Nat.{ℕ, _/_, _*_, _≤_, _<_}
+use Prim.Native.Nat.{ℕ, _*_, _≤_, _<_}
 use native.Mathlib.Omega.{arith}
-use Rattle.settings.specs.declared.Settings.{Settings}
-use Rattle.settings.specs.Settings.{inRange}
 use Rattle.pool.specs.declared.Frame.{Frame}
 use Rattle.pool.specs.declared.Pool.{Pool}
-use Rattle.pool.specs.Pool.{frameAt, epochAt, lastEpochOf}
+use Rattle.pool.specs.Pool.{frameAt, lastEpochOf}
 use Rattle.pool.proofs.Sound.{Logged, SoundFrame, Sound}
 
 -- a frame before and after: its count within the cap, not dirty where it was clean, and as it was where it is not in use

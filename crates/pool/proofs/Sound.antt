@@ -1,21 +1,19 @@
--- Soundness as facts: what a sound pool tells of each frame, and that the check, frame by frame, decides it.
-use mathlib.Core.Path.{_≡_, refl, ap, sym, _∙_}
+-- Soundness as facts: what a sound pool tells of each frame, and that those facts make it sound.
+use mathlib.Core.Path.{_≡_, refl, ap, sym}
 use mathlib.Core.Bool.{Bool, true, false, _&&_, _||_, not, true≢false, and-eq-true-iff}
 use mathlib.Core.List.{List}
 use Prim.Native.Nat.{ℕ, zero, suc, _+_, _-_, _*_, _≤_, _<_}
 use native.Mathlib.Omega.{arith}
 use lib.ListN.{getD}
 use lib.Dec.{eqb, ltb, leb}
-use borrow.Author.Tests.{eq-eqb, ne-eqb, eqb-true, eqb-false, lt-ltb, le-ltb, ltb-true, ltb-false, le-leb, leb-true}
-use Rattle.search.specs.Search.{pick, everyBelow}
-use Rattle.search.proofs.Every.{same-test, pick-ind, denied, every-at, every-of}
-use Rattle.refusal.specs.Refusals.{demand, notSound}
+use borrow.Author.Tests.{eq-eqb, ne-eqb, eqb-true, lt-ltb, le-ltb, ltb-true, ltb-false, le-leb, leb-true}
+use Rattle.search.specs.Search.{everyBelow}
+use Rattle.search.proofs.Every.{pick-ind, denied, every-at, every-of}
 use Rattle.settings.specs.Settings.{inRange}
 use Rattle.pool.specs.declared.Frame.{Frame}
 use Rattle.pool.specs.declared.Pool.{Pool}
-use Rattle.pool.specs.Sound.{whenever, holdsPage, lastAt, zeroFrame, placeSound, placeAt, soundLog, lowest, withinFrames, distinctPage, unusedZero, countCapped, lastBelow, distinctLast, accessLogSound, writeLogSound, logsNonempty, each, soundPool, checkOf}
-use Rattle.pool.specs.ByFrame.{pairSound, pairAt, pairsSound, fieldsSound, besideSound, logsSound, frameSound}
-use Rattle.pool.specs.Pool.{referenceLimit, frameRoom, accessRoom, writeRoom, emptyFrame, frameAt, lastEpochOf}
+use Rattle.pool.specs.Sound.{whenever, holdsPage, lastAt, zeroFrame, placeAt, soundLog, lowest, withinFrames, distinctPage, unusedZero, countCapped, lastBelow, distinctLast, accessLogSound, writeLogSound, logsNonempty, each, soundPool}
+use Rattle.pool.specs.Pool.{referenceLimit, emptyFrame, frameAt, lastEpochOf}
 
 -- what two tests tell together, and one behind another
 pub both : (a b : Bool) → (a && b) ≡ true → (a ≡ true) × (b ≡ true)
@@ -68,9 +66,6 @@ apart-of : (u : Bool) (x y : ℕ) → (x ≡ y → ⊥) → not (u && eqb x y) �
 apart-of true x y f = rw (ne-eqb x y f)
 apart-of false x y f = refl
 
-other : (x y : ℕ) → not (eqb x y) ≡ true → x ≡ y → ⊥
-other x y h = apart true x y h refl
-
 -- a frame that is all zero is the empty one
 pub zero-empty : (fr : Frame) → zeroFrame fr ≡ true → fr ≡ emptyFrame
 zero-empty fr h =
@@ -101,9 +96,6 @@ zero-empty fr h =
 
 -- a sound log's facts, and a log with those facts is sound
 module _ (a : List ℕ) (at room n epoch : ℕ) where
-  entry : ℕ → ℕ
-  entry j = getD a (at + j) 0
-
   log-place : soundLog a at room n epoch ≡ true → (n ≤ room) × ((j : ℕ) → j < room → placeAt a at n epoch j ≡ true)
   unfolding soundLog
   log-place h =

@@ -1,5 +1,5 @@
 -- Soundness as the check goes through a pool, frame by frame; `by-frame` in proofs/ shows that it is `soundPool`.
-use Prim.Native.Nat.{ℕ, _*_}
+use Prim.Native.Nat.{ℕ}
 use mathlib.Core.Bool.{Bool, _&&_, _||_, not}
 use lib.Dec.{eqb, ltb}
 use Rattle.search.specs.Search.{pick, everyBelow}
@@ -28,8 +28,5 @@ besideSound p i =
     (fieldsSound (frameAt (p .frames) i) i (p .settings .frames) (p .k) && pairsSound p i)
     (zeroFrame (frameAt (p .frames) i))
 
-unfoldable pub logsSound : Pool → ℕ → Bool
-logsSound p i = accessLogSound p i && writeLogSound p i
-
 unfoldable pub frameSound : Pool → ℕ → Bool
-frameSound p i = countCapped p i && (besideSound p i && logsSound p i)
+frameSound p i = (countCapped p i && besideSound p i) && (accessLogSound p i && writeLogSound p i)

@@ -1,6 +1,6 @@
 -- The pool: what it holds, a fresh one, and the epoch.
-use Prim.Native.Nat.{ℕ, _*_, _/_}
-use mathlib.Core.Bool.{Bool, true, false}
+use Prim.Native.Nat.{ℕ, _/_}
+use mathlib.Core.Bool.{false}
 use mathlib.Core.List.{List}
 use lib.ListN.{getD, replicate}
 use Rattle.search.specs.Search.{pick}

@@ -2,13 +2,12 @@
 use settings::Settings;
 ghost use mathlib.Core.Path.{_≡_};
 ghost use mathlib.Core.Bool.{true};
-ghost use Prim.Native.Nat.{ℕ, _+_, _*_, _<_, _≤_};
-ghost use lib.ListN.{length, getD};
-ghost use Rattle.settings.specs.Settings.{inRange};
+ghost use Prim.Native.Nat.{_+_, _*_, _<_, _≤_};
+ghost use lib.ListN.{length};
 ghost use Rattle.search.specs.Search.{everyBelow};
-ghost use Rattle.pool.specs.Pool.{emptyFrame, oneFrame, emptyPool, freshOf, nowOf};
+ghost use Rattle.pool.specs.Pool.{oneFrame, emptyPool, freshOf, nowOf};
 ghost use Rattle.pool.specs.Sound.{placeSound, soundLog, zeroFrame, checkOf};
-ghost use Rattle.pool.specs.ByFrame.{pairSound, pairsSound, fieldsSound, besideSound, logsSound, frameSound};
+ghost use Rattle.pool.specs.ByFrame.{pairSound, pairsSound, fieldsSound, besideSound, frameSound};
 
 pub struct Frame {
     pub used: bool,
@@ -187,31 +186,19 @@ fn beside_sound(p: Pool, i: usize) -> bool
     zero_frame(fr)
 }
 
-fn logs_sound(p: Pool, i: usize) -> bool
-    requires { ⌜ (i < 128) × (0 < p .settings .epoch) ⌝ }
-    ensures { λ r. ⌜ r ≡ logsSound p i ⌝ }
-{
-    let fr = p.frames[i];
-    let epoch = fr.last / p.settings.epoch;
-    log_sound(&p.access, i * 8, 8, fr.accesses as usize, epoch)
-        & log_sound(&p.write, i * 4, 4, fr.writes as usize, epoch)
-}
-
-fn frame_sound(p: Pool, i: usize) -> bool
-    requires { ⌜ (i < 128) × (0 < p .settings .epoch) ⌝ }
-    ensures { λ r. ⌜ r ≡ frameSound p i ⌝ }
-{
-    let fr = p.frames[i];
-    (fr.count as u16 <= p.settings.cap) & (beside_sound(p, i) & logs_sound(p, i))
-}
-
+// Whether every frame is sound. The logs are lent from here, so that the pool is not copied for each frame.
 fn frames_sound(p: Pool) -> bool
     requires { ⌜ 0 < p .settings .epoch ⌝ }
     ensures { λ r. ⌜ r ≡ everyBelow (frameSound p) 128 ⌝ }
 {
     let mut i: usize = 0;
     while i < 128 {
-        if !frame_sound(p, i) {
+        let fr = p.frames[i];
+        let beside = (fr.count as u16 <= p.settings.cap) & beside_sound(p, i);
+        let epoch = fr.last / p.settings.epoch;
+        let access = log_sound(&p.access, i * 8, 8, fr.accesses as usize, epoch);
+        let write = log_sound(&p.write, i * 4, 4, fr.writes as usize, epoch);
+        if !(beside & (access & write)) {
             return false;
         }
         i += 1;

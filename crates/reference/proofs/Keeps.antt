@@ -1,32 +1,27 @@
 -- Each reference, pin and unpin keeps a sound pool sound; what is found is the only frame with that page; other frames stay.
 use mathlib.Core.Path.{_≡_, refl, ap, sym, subst, _∙_}
-use mathlib.Core.Bool.{Bool, true, false, not, _&&_, true≢false, false≢true, and-eq-true-iff}
-use mathlib.Core.List.{List}
-use mathlib.Core.Logic.{_⊎_, ⊎-elim}
-use Prim.Native.Nat.{ℕ, _+_, _-_, _*_, _/_, _≤_, _<_, min}
+use mathlib.Core.Bool.{Bool, true, true≢false, false≢true, and-eq-true-iff}
+use Prim.Native.Nat.{ℕ, _+_, _-_, _*_, _≤_, _<_}
 use native.Mathlib.Omega.{arith}
-use native.Mathlib.Decide.{ℕ-discrete, decLt}
+use native.Mathlib.Decide.{decLt}
 use native.Mathlib.Nat.{le-trans, le-of-lt, le-div-iff-mul-le, div-mul-le-self}
-use lib.ListN.{length, getD, set, length-set}
+use lib.ListN.{length, length-set}
 use lib.Seq.{getD-set-same, getD-set-other}
 use lib.Dec.{eqb}
-use borrow.Author.Tests.{eq-eqb, eqb-true, eqb-false}
+use borrow.Author.Tests.{eq-eqb, eqb-true}
 use Rattle.search.specs.declared.Found.the-variants.{At, Nothing}
-use Rattle.search.specs.Search.{never, leastBelow}
+use Rattle.search.specs.Search.{never}
 use Rattle.search.proofs.Least.{least-sound, least-none, first-lowest}
 use Rattle.search.proofs.Every.{undenied}
 use Rattle.settings.specs.declared.Settings.{Settings}
-use Rattle.settings.specs.Settings.{inRange}
 use Rattle.settings.proofs.Laws.{ranges}
 use Rattle.pool.specs.declared.Frame.{Frame}
 use Rattle.pool.specs.declared.Pool.{Pool}
 use Rattle.pool.specs.Pool.{emptyFrame, frameAt, epochAt, nowOf, lastEpochOf, withCount}
-use Rattle.pool.specs.Sound.{holdsPage}
-use Rattle.pool.proofs.Sound.{Logged, SoundFrame, Sound}
+use Rattle.pool.proofs.Sound.{Sound}
 use Rattle.pool.proofs.Sizes.{Sized}
 use Rattle.pool.proofs.Quiet.{Alike, Quiet, sound-quiet}
 use Rattle.reference.specs.Search.{has, findPage, unused, lowestUnused}
-use Rattle.reference.specs.Logs.{cleared}
 use Rattle.reference.specs.Reference.{withFrame, withPins, raised, newFrame, emptied, hitAt, fetchedAt, pinnedAt, unpinnedAt}
 use Rattle.reference.proofs.Logs.{clear-length}
 use Rattle.reference.proofs.Logged.{logged-up, logged-same, clear-logged, clear-other}

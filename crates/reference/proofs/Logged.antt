@@ -1,9 +1,9 @@
 -- What a reference does to the facts of a log: its own, and every other frame's.
-use mathlib.Core.Path.{_≡_, refl, ap, sym, subst, _∙_}
-use mathlib.Core.Bool.{Bool, true, false, not, _&&_, _||_, true≢false}
+use mathlib.Core.Path.{_≡_, refl, sym, subst, _∙_}
+use mathlib.Core.Bool.{Bool, true, false, _&&_, true≢false}
 use mathlib.Core.List.{List}
 use mathlib.Core.Logic.{_⊎_, inl, inr, ⊎-elim}
-use Prim.Native.Nat.{ℕ, zero, suc, _+_, _-_, _*_, _≤_, _<_, min}
+use Prim.Native.Nat.{ℕ, zero, suc, _+_, _-_, _*_, _≤_, _<_}
 use native.Mathlib.Omega.{arith}
 use native.Mathlib.Decide.{decLt}
 use native.Mathlib.Nat.{mul-le-mul-right, suc-mul}
@@ -14,7 +14,7 @@ use Rattle.search.specs.Search.{pick}
 use Rattle.search.proofs.Every.{pick-ind}
 use Rattle.pool.proofs.Sound.{Logged}
 use Rattle.reference.specs.Logs.{putFront, cleared, grown, stays, lengthWith, logWith}
-use Rattle.reference.proofs.Logs.{put-length, put-newest, put-older, put-before, put-after, clear-zero, clear-before, clear-after, clear-length}
+use Rattle.reference.proofs.Logs.{put-length, put-newest, put-older, put-before, put-after, clear-zero, clear-before, clear-after}
 
 -- a later epoch bounds the entries too
 pub logged-up : (a : List ℕ) (at room n e d : ℕ) → e ≤ d → Logged a at room n e → Logged a at room n d
@@ -46,9 +46,6 @@ module _ (a : List ℕ) (at room n epoch : ℕ) (on : Bool) (long : at + room �
   module _ (e : stays on n (getD a at 0) epoch ≡ false) where
     fits : at + grown room n ≤ length a
     fits = omega arith
-
-    entry : ℕ → ℕ
-    entry j = getD (putFront a at (grown room n) epoch) (at + j) 0
 
     put-falls : (j : ℕ) → suc j < grown room n → getD (putFront a at (grown room n) epoch) (at + suc j) 0 < getD (putFront a at (grown room n) epoch) (at + j) 0
     put-falls zero l = rw (put-older a at epoch (grown room n) fits 0 l, put-newest a at epoch (grown room n) fits (omega arith)) (newest-other e (omega arith))
@@ -91,10 +88,6 @@ with-some a at room n epoch h = go (ltb 0 n) refl
 pub with-kept : (a : List ℕ) (at room n epoch : ℕ) → lengthWith a at room n epoch false ≡ n
 unfolding lengthWith
 with-kept a at room n epoch = refl
-
-pub with-kept-log : (a : List ℕ) (at room n epoch : ℕ) → logWith a at room n epoch false ≡ a
-unfolding logWith
-with-kept-log a at room n epoch = refl
 
 -- places of different frames lie apart
 pub apart-places : (room i j k n : ℕ) → (j ≡ i → ⊥) → k < room → n ≤ room → (j * room + k < i * room) ⊎ (i * room + n ≤ j * room + k)

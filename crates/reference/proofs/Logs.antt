@@ -1,16 +1,14 @@
 -- Laws of a log in its array: what putting an epoch at its front and clearing it store, and that every other place stays.
-use mathlib.Core.Path.{_≡_, refl, ap, sym, _∙_}
+use mathlib.Core.Path.{_≡_, ap, sym, _∙_}
 use mathlib.Core.Bool.{Bool, true, false}
-use mathlib.Core.List.{List, [], _∷_}
+use mathlib.Core.List.{List, _∷_}
 use Prim.Native.Nat.{ℕ, suc, _+_, _-_, _≤_, _<_}
 use native.Mathlib.Omega.{arith}
 use native.Mathlib.Numerals.{add-one}
-use native.Mathlib.Nat.{add-zero}
 use lib.ListN.{length, getD, set, drop, replicate, length-drop, length-replicate, getD-replicate}
-use lib.Seq.{paste, paste-zero, paste-suc, length-paste, drop-paste, getD-drop}
-use Rattle.search.specs.Search.{pick}
+use lib.Seq.{paste, paste-zero, paste-suc, length-paste, getD-drop}
 use Rattle.reference.specs.Logs.{putFront, cleared, grown, stays, lengthWith, logWith}
-use Rattle.reference.proofs.Places.{at-drop, paste-in, paste-before, paste-after}
+use Rattle.reference.proofs.Places.{paste-in, paste-before, paste-after}
 
 module _ (a : List ℕ) (at epoch : ℕ) where
   -- what is carried when j places are filled

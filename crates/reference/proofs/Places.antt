@@ -1,14 +1,10 @@
 -- A run of places filled from a list: what stands in it, before it and after it.
-use mathlib.Core.Path.{_≡_, refl, ap, sym, _∙_}
+use mathlib.Core.Path.{_≡_, ap, sym, _∙_}
 use mathlib.Core.List.{List, _++_}
 use Prim.Native.Nat.{ℕ, _+_, _-_, _≤_, _<_}
 use native.Mathlib.Omega.{arith}
-use native.Mathlib.Nat.{add-zero}
 use lib.ListN.{length, getD, take, drop, List·getD-append}
 use lib.Seq.{paste, drop-paste, length-paste-head, length-take-le, getD-drop, getD-take, getD-append-add}
-
-pub at-drop : (l : List ℕ) (i : ℕ) → getD (drop i l) 0 0 ≡ getD l i 0
-at-drop l i = getD-drop i l 0 0 ∙ ap (λ (k : ℕ). getD l k 0) (add-zero i)
 
 module _ (a : List ℕ) (at : ℕ) (s : List ℕ) (n : ℕ) (room : at + n ≤ length a) (some : n ≤ length s) where
   head-long : length (take at a ++ take n s) ≡ at + n

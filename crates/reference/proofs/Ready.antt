@@ -2,10 +2,10 @@
 use mathlib.Core.Path.{_≡_, refl, ap, sym, subst, _∙_}
 use mathlib.Core.Bool.{Bool, true, false, _||_, true≢false}
 use mathlib.Core.List.{List}
-use Prim.Native.Nat.{ℕ, _+_, _*_, _/_, _≤_, _<_}
+use Prim.Native.Nat.{ℕ, _+_, _*_, _≤_, _<_}
 use native.Mathlib.Omega.{arith}
 use native.Mathlib.Decide.{ℕ-discrete}
-use lib.ListN.{length, getD, set, length-set}
+use lib.ListN.{length, set, length-set}
 use lib.Seq.{getD-set-same, getD-set-other}
 use Rattle.settings.specs.Settings.{inRange}
 use Rattle.pool.specs.declared.Frame.{Frame}
@@ -13,7 +13,7 @@ use Rattle.pool.specs.declared.Pool.{Pool}
 use Rattle.pool.specs.Pool.{emptyFrame, frameAt, epochAt, nowOf, lastEpochOf}
 use Rattle.pool.proofs.Sound.{Logged, SoundFrame, Sound}
 use Rattle.pool.proofs.Sizes.{Sized}
-use Rattle.reference.specs.Logs.{lengthWith, logWith}
+use Rattle.reference.specs.Logs.{lengthWith}
 use Rattle.reference.specs.Reference.{referredFrame, referred}
 use Rattle.reference.proofs.Logged.{logged-same, with-logged, with-some, with-kept, with-other, with-length}
 

@@ -1,9 +1,7 @@
 -- Reference: the bookkeeping of a hit, of a fetch, of a pin and of an unpin.
 use Prim.Native.Nat.{ℕ, _+_, _-_, _*_, _≤_, _<_, min}
 use mathlib.Core.Bool.{Bool, true, false, _||_}
-use mathlib.Core.List.{List}
 use lib.ListN.{set}
-use Rattle.search.specs.Search.{pick}
 use Rattle.pool.specs.declared.Frame.{Frame}
 use Rattle.pool.specs.declared.Pool.{Pool}
 use Rattle.pool.specs.Pool.{referenceLimit, accessRoom, writeRoom, frameAt, withCount, nowOf}

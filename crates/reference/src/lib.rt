@@ -4,7 +4,7 @@ use pool::Pool;
 use search::Found;
 ghost use mathlib.Core.Path.{_≡_};
 ghost use mathlib.Core.Bool.{true};
-ghost use Prim.Native.Nat.{ℕ, _+_, _*_, _<_, _≤_};
+ghost use Prim.Native.Nat.{_+_, _*_, _<_, _≤_};
 ghost use lib.ListN.{length};
 ghost use Rattle.pool.specs.Sound.{holdsPage};
 ghost use Rattle.reference.specs.Search.{findPage, lowestUnused};

@@ -1,6 +1,6 @@
 -- Laws of the numbers in a list: facts of all of them, and one more at the end.
-use mathlib.Core.Path.{_≡_, refl, ap, sym, _∙_}
-use mathlib.Core.Bool.{Bool, true, false, _||_, or-assoc, or-false}
+use mathlib.Core.Path.{_≡_, ap, sym, _∙_}
+use mathlib.Core.Bool.{Bool, _||_, or-assoc, or-false}
 use mathlib.Core.List.{List, [], _∷_, _++_}
 use Prim.Native.Nat.{ℕ}
 use lib.Dec.{eqb}
@@ -24,8 +24,3 @@ pub all-snoc : (P : ℕ → Type 0) (xs : List ℕ) (y : ℕ) → All P xs → P
 unfolding All
 all-snoc P [] y a h = (h, tt)
 all-snoc P (x ∷ xs) y a h = (a .0, all-snoc P xs y (a .1) h)
-
-pub all-map : (P Q : ℕ → Type 0) (xs : List ℕ) → ((x : ℕ) → P x → Q x) → All P xs → All Q xs
-unfolding All
-all-map P Q [] f a = tt
-all-map P Q (x ∷ xs) f a = (f x (a .0), all-map P Q xs f (a .1))

@@ -1,7 +1,7 @@
 -- Laws of a test of every number below a bound, and of cases on tests.
 use mathlib.Core.Path.{_≡_, refl, ap, sym, _∙_}
 use mathlib.Core.Bool.{Bool, true, false, _&&_, not, true≢false, and-eq-true-iff}
-use Prim.Native.Nat.{ℕ, zero, suc, _+_, _≤_, _<_}
+use Prim.Native.Nat.{ℕ, zero, suc, _+_, _<_}
 use native.Mathlib.Omega.{arith}
 use native.Mathlib.Numerals.{add-one}
 use native.Mathlib.Nat.{not-suc-le-zero}
@@ -57,8 +57,3 @@ every-fails ok n i l e = go (everyBelow ok n) refl
     go : (t : Bool) → everyBelow ok n ≡ t → t ≡ false
     go true h = absurd (true≢false (sym (every-at ok n i h l) ∙ e))
     go false h = refl
-
-pub every-cong : (ok ok′ : ℕ → Bool) (n : ℕ) → ((i : ℕ) → i < n → ok i ≡ ok′ i) → everyBelow ok n ≡ everyBelow ok′ n
-every-cong ok ok′ n f = same-test (everyBelow ok n) (everyBelow ok′ n)
-    (λ h. every-of ok′ n (λ i l. sym (f i l) ∙ every-at ok n i h l))
-    (λ h. every-of ok n (λ i l. f i l ∙ every-at ok′ n i h l))

@@ -1,3 +1,2 @@
 pub mod Owed
-pub mod Worked
 pub mod Rules

@@ -52,6 +52,7 @@ lowered-more fr g h a b = let x = a .low in let y = b .low in record { kept = b 
 pub record Owes (choose : Pool → Choice) : Type 0 where
   pub unpinned : (p : Pool) (v : ℕ) → Sound p → choose p .found ≡ At v → (v < p .settings .frames) × (unpinned (p .frames) v ≡ true)
   pub none : (p : Pool) → (choose p .found ≡ Nothing → AllPinned p) × (AllPinned p → choose p .found ≡ Nothing)
+  pub still : (p : Pool) → choose p .found ≡ Nothing → leftBy p (choose p) ≡ p
   pub keeps : (p : Pool) (i : ℕ) → frameAt (choose p .frames) i ≡ withCount (frameAt (p .frames) i) (frameAt (choose p .frames) i .count)
   pub quiet : (p : Pool) → Sound p → Quiet p (leftBy p (choose p))
   pub sound : (p : Pool) → Sound p → Sound (leftBy p (choose p))

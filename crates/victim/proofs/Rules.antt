@@ -62,6 +62,7 @@ pub choice-owes : Owes choiceOf
 choice-owes = record {
   unpinned = λ p v s. by-choice (λ q c. c .found ≡ At v → (v < q .settings .frames) × (unpinned (q .frames) v ≡ true)) p (lru-owes .unpinned p v s) (clock-owes .unpinned p v s) (watt-owes .unpinned p v s);
   none = λ p. by-choice (λ q c. (c .found ≡ Nothing → AllPinned q) × (AllPinned q → c .found ≡ Nothing)) p (lru-owes .none p) (clock-owes .none p) (watt-owes .none p);
+  still = λ p. by-choice (λ q c. c .found ≡ Nothing → leftBy q c ≡ q) p (lru-owes .still p) (clock-owes .still p) (watt-owes .still p);
   keeps = λ p i. by-choice (λ q c. frameAt (c .frames) i ≡ withCount (frameAt (q .frames) i) (frameAt (c .frames) i .count)) p (lru-owes .keeps p i) (clock-owes .keeps p i) (watt-owes .keeps p i);
   quiet = λ p s. by-choice (λ q c. Quiet q (leftBy q c)) p (lru-owes .quiet p s) (clock-owes .quiet p s) (watt-owes .quiet p s);
   sound = λ p s. by-choice (λ q c. Sound (leftBy q c)) p (lru-owes .sound p s) (clock-owes .sound p s) (watt-owes .sound p s);

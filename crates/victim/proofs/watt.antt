@@ -1,4 +1,3 @@
 pub mod Values
 pub mod Turns
 pub mod Laws
-pub mod Worked

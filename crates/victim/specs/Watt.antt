@@ -52,11 +52,11 @@ module _ (p : Pool) where
   unfoldable pub wattVictim : Found
   wattVictim = onFound (leastValue drawnFrame) At (leastValue (λ _. true))
 
-  -- the victim, and the sampler number after the draws; hand and frames are left alone
+  -- the victim, and the sampler number after the draws; hand and frames are left alone, and all where every frame is pinned
   unfoldable pub wattChoice : Choice
   wattChoice = record {
     found = wattVictim;
     hand = p .hand;
-    sampler = samplerAfter (p .sampler) (p .settings .sample);
+    sampler = onFound wattVictim (λ _. samplerAfter (p .sampler) (p .settings .sample)) (p .sampler);
     frames = p .frames;
   }

@@ -12,7 +12,7 @@ ghost use Rattle.worth.specs.Value.{lessFraction};
 ghost use Rattle.worth.specs.Sizes.{Small};
 ghost use Rattle.pool.specs.Pool.{nowOf};
 ghost use Rattle.pool.specs.Sound.{soundPool};
-ghost use Rattle.victim.specs.Watt.{nextSampler, samplerAfter, draws, valueAt, leastValue, wattChoice};
+ghost use Rattle.victim.specs.Watt.{nextSampler, samplerAfter, draws, valueAt, leastValue, drawnFrame, wattVictim, wattChoice};
 
 // The sampler number after some draws, and which frames they named.
 struct Draws {
@@ -101,7 +101,32 @@ fn least(p: Pool, marks: [bool; 128], epoch: u32) -> Found
     best
 }
 
-// The victim, and the sampler number after the draws. If every drawn frame is pinned, all frames count as drawn.
+// The victim among the drawn frames; if every drawn frame is pinned, all frames count as drawn.
+fn victim(p: Pool, marks: [bool; 128], epoch: u32) -> Found
+    requires { ⌜ (soundPool p ≡ true) × (epoch ≡ nowOf p) × ((i : ℕ) → i < 128 → getD marks i false ≡ drawnFrame p i) ⌝ }
+    ensures { λ r. ⌜ r ≡ wattVictim p ⌝ }
+{
+    let first = least(p, marks, epoch);
+    match first {
+        Found::At(v) => Found::At(v),
+        Found::Nothing => {
+            let every = [true; 128];
+            least(p, every, epoch)
+        }
+    }
+}
+
+// The sampler number: as it was where there is no victim.
+fn moved(found: Found, after: u32, before: u32) -> u32
+    ensures { λ r. ⌜ r ≡ onFound found (λ _. after) before ⌝ }
+{
+    match found {
+        Found::At(_) => after,
+        Found::Nothing => before,
+    }
+}
+
+// The victim, and the sampler number after the draws.
 pub fn choose(p: Pool) -> Choice
     requires { ⌜ soundPool p ≡ true ⌝ }
     ensures { λ r. ⌜ r ≡ wattChoice p ⌝ }
@@ -109,16 +134,12 @@ pub fn choose(p: Pool) -> Choice
     let epoch = pool::now_of(p);
     let d = drawn(p.sampler, p.settings.frames, p.settings.sample);
     let marks = d.marks;
-    let mut found = least(p, marks, epoch);
-    if let Found::Nothing = found {
-        let every = [true; 128];
-        found = least(p, every, epoch);
-    }
+    let found = victim(p, marks, epoch);
     let frames = p.frames;
     Choice {
         found: found,
         hand: p.hand,
-        sampler: d.sampler,
+        sampler: moved(found, d.sampler, p.sampler),
         frames: frames,
     }
 }

@@ -1,6 +1,5 @@
 use mathlib.Core.Path.{refl}
 use Rattle.pool.specs.Pool.{emptyPool}
-use borrow.Author.Needs.{needs}
 use Rattle.pool.proofs.empty_pool.Statement.{statement}
 use Rattle.pool.proofs.empty_pool.Tie as tie
 

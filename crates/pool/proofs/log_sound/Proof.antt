@@ -1,12 +1,12 @@
 use Prim.Native.Nat.{_+_, _-_, _≤_}
-use mathlib.Core.Path.{_≡_, refl, sym, _∙_}
+use mathlib.Core.Path.{_≡_, sym, _∙_}
 use mathlib.Core.Bool.{true}
 use native.Mathlib.Omega.{arith}
 use lib.ListN.{getD}
 use denote.Ref.{now}
 use Rattle.search.specs.Search.{everyBelow}
 use Rattle.search.proofs.Every.{every-none, every-more, denied, undenied}
-use Rattle.pool.specs.Sound.{placeAt, soundLog}
+use Rattle.pool.specs.Sound.{placeAt}
 use Rattle.pool.proofs.Laws.{newer-first, newer-next, log-fails, log-ends}
 use borrow.Author.Needs.{needs}
 use Rattle.pool.proofs.log_sound.Statement.{statement}

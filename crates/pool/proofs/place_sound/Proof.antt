@@ -1,5 +1,4 @@
 use borrow.Author.Tests.{lt-ltb, le-ltb}
-use borrow.Author.Needs.{needs}
 use Rattle.pool.proofs.place_sound.Statement.{statement}
 use Rattle.pool.proofs.place_sound.Tie as tie
 

@@ -1,5 +1,4 @@
 use mathlib.Core.Path.{sym, _∙_}
-use native.Mathlib.Omega.{arith}
 use Rattle.reference.proofs.Logs.{put-stays, put-goes}
 use borrow.Author.Needs.{needs}
 use Rattle.reference.proofs.put_epoch.Statement.{statement}

@@ -211,8 +211,13 @@ clock-pages ρ p =
     go true = swept-repaged ρ p
     go false = refl
 
+-- where it finds none it leaves the pool as it was
+pub clock-still : (p : Pool) → clockChoice p .found ≡ Nothing → leftBy p (clockChoice p) ≡ p
+unfolding sweptChoice
+clock-still p = clock-cases (λ c. c .found ≡ Nothing → leftBy p c ≡ p) p (λ some e. absurd (apart (sweepOf p .0) (sym e))) (λ none e. refl)
+
 pub clock-owes : Owes clockChoice
-clock-owes = record { unpinned = clock-unpinned; none = clock-none; keeps = clock-keeps; quiet = clock-quiet; sound = clock-sound; pages = clock-pages }
+clock-owes = record { unpinned = clock-unpinned; none = clock-none; still = clock-still; keeps = clock-keeps; quiet = clock-quiet; sound = clock-sound; pages = clock-pages }
 
 -- the victim's count after the sweep is 0, and the hand is then one past it
 pub clock-rest : (p : Pool) (v : ℕ) → Sound p → clockChoice p .found ≡ At v → (frameAt (clockChoice p .frames) v .count ≡ 0) × (clockChoice p .hand ≡ nextHand (p .settings .frames) v)

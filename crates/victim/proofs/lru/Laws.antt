@@ -53,8 +53,13 @@ pub lru-pages : (ρ : ℕ → ℕ) (p : Pool) → lruChoice (repagedPool ρ p) �
 unfolding lruChoice
 lru-pages ρ p = ap (unmoved (repagedPool ρ p)) (victim-repaged ρ (p .frames) (p .settings .frames))
 
+-- where it finds none it leaves the pool as it was
+pub lru-still : (p : Pool) → lruChoice p .found ≡ Nothing → leftBy p (lruChoice p) ≡ p
+unfolding lruChoice
+lru-still p h = refl
+
 pub lru-owes : Owes lruChoice
-lru-owes = record { unpinned = lru-unpinned; none = lru-none; keeps = lru-keeps; quiet = lru-quiet; sound = lru-sound; pages = lru-pages }
+lru-owes = record { unpinned = lru-unpinned; none = lru-none; still = lru-still; keeps = lru-keeps; quiet = lru-quiet; sound = lru-sound; pages = lru-pages }
 
 -- no unpinned frame below f has a smaller last step than the victim
 pub lru-least : (p : Pool) (v j : ℕ) → lruChoice p .found ≡ At v → j < p .settings .frames → unpinned (p .frames) j ≡ true → frameAt (p .frames) v .last ≤ frameAt (p .frames) j .last

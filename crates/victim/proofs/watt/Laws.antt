@@ -146,13 +146,19 @@ module _ (ρ : ℕ → ℕ) (p : Pool) where
 
   pub watt-pages : wattChoice (repagedPool ρ p) ≡ repagedChoice ρ (wattChoice p)
   unfolding wattChoice
-  watt-pages = rw victim-repaged
+  watt-pages = rw (victim-repaged)
+
+-- where it finds none it leaves the pool as it was
+pub watt-still : (p : Pool) → wattChoice p .found ≡ Nothing → leftBy p (wattChoice p) ≡ p
+unfolding wattChoice
+watt-still p h = rw h
 
 pub watt-owes : Owes wattChoice
 unfolding wattChoice
 watt-owes = record {
   unpinned = λ p v _. watt-unpinned p v;
   none = watt-none;
+  still = watt-still;
   keeps = λ p i. refl;
   quiet = watt-quiet;
   sound = watt-sound;

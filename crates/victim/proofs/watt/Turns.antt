@@ -1,6 +1,6 @@
 -- What the draws and the search have come to after each turn, for the code of WATT to cite.
 use mathlib.Core.Path.{_≡_, refl, ap, sym, _∙_}
-use mathlib.Core.Bool.{Bool, true, false, _&&_, _||_, or-false, or-true, true≢false}
+use mathlib.Core.Bool.{Bool, true, false, _&&_, or-false, or-true, true≢false}
 use mathlib.Core.List.{List, [], _∷_, _++_}
 use Prim.Native.Nat.{ℕ, _+_, _%_, _≤_, _<_}
 use native.Mathlib.Numerals.{add-one}
@@ -117,21 +117,25 @@ module _ (p : Pool) (sound : soundPool p ≡ true) (marks : List Bool) where
       least-cong (λ i. getD marks i false && unpinned (p .frames) i) (λ i. counts i && unpinned (p .frames) i) (lessValue p) (lessValue p) (p .settings .frames)
       (λ j l. ap (λ (b : Bool). b && unpinned (p .frames) j) (h j (omega arith))) (λ i j _ _. refl)
 
-abbrev pub chosen : Pool → Found → ℕ → Choice
-chosen p v s = record { found = v; hand = p .hand; sampler = s; frames = p .frames }
-
-module _ (p : Pool) (sound : soundPool p ≡ true) (s : ℕ) (marks : List Bool) (drawn : Marked marks (draws (p .sampler) (p .settings .frames) (p .settings .sample)))
-    (number : s ≡ samplerAfter (p .sampler) (p .settings .sample)) (first : Found) (by : first ≡ leastValue p (λ i. getD marks i false)) where
+-- the two ways to a victim
+module _ (p : Pool) (sound : soundPool p ≡ true) (marks : List Bool) (drawn : (i : ℕ) → i < 128 → getD marks i false ≡ drawnFrame p i)
+    (first : Found) (by : first ≡ leastValue p (λ i. getD marks i false)) where
   first-is : leastValue p (drawnFrame p) ≡ first
   first-is = sym (marks-find p sound marks (drawnFrame p) drawn) ∙ sym by
 
   -- a drawn frame is found
-  pub choice-drawn : (v : ℕ) → first ≡ At v → chosen p first s ≡ wattChoice p
-  unfolding wattChoice wattVictim
-  choice-drawn v e = rw (first-is, e, number)
+  pub victim-drawn : (v : ℕ) → first ≡ At v → At v ≡ wattVictim p
+  unfolding wattVictim
+  victim-drawn v e = rw (first-is, e)
 
   -- every drawn frame is pinned
-  pub choice-every : (second : Found) → first ≡ Nothing → second ≡ leastValue p (λ i. getD (replicate 128 true) i false) → chosen p second s ≡ wattChoice p
-  unfolding wattChoice wattVictim
-  choice-every second e g =
-      rw (first-is, e, number, g, marks-find p sound (replicate 128 true) (λ _. true) (λ i l. getD-replicate 128 i true false l))
+  pub victim-every : (second : Found) → first ≡ Nothing → second ≡ leastValue p (λ i. getD (replicate 128 true) i false) → second ≡ wattVictim p
+  unfolding wattVictim
+  victim-every second e g =
+      rw (first-is, e, g, marks-find p sound (replicate 128 true) (λ _. true) (λ i l. getD-replicate 128 i true false l))
+
+-- the choice, as it is put together
+pub choice-is : (p : Pool) (found : Found) (after sampler : ℕ) → after ≡ samplerAfter (p .sampler) (p .settings .sample) → found ≡ wattVictim p → sampler ≡ onFound found (λ _. after) (p .sampler)
+    → _≡_ {A = Choice} (record { found = found; hand = p .hand; sampler = sampler; frames = p .frames }) (wattChoice p)
+unfolding wattChoice
+choice-is p found after sampler a f s = rw (s, f, a)

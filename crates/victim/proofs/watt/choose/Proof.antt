@@ -1,7 +1,6 @@
-use mathlib.Core.Logic.{⊎-elim}
 use Rattle.settings.proofs.Laws.{Ranges, ranges}
 use Rattle.pool.proofs.Sound.{told}
-use Rattle.victim.proofs.watt.Turns.{choice-drawn, choice-every}
+use Rattle.victim.proofs.watt.Turns.{choice-is}
 use borrow.Author.Needs.{needs}
 use Rattle.victim.proofs.watt.choose.Statement.{statement}
 use Rattle.victim.proofs.watt.choose.Tie as tie
@@ -15,16 +14,11 @@ now-of-requires c κs = ranged c .epoch .0
 drawn-requires : tie.Need-drawn-requires
 drawn-requires c κs = ranged (c .before) .frames
 
+victim-requires : tie.Need-victim-requires
+victim-requires c κs = (c .before .before .before .pre, c .before .before .now-of .ensures, c .before .drawn .ensures .1)
+
 returns : tie.Need-returns
-returns c =
-    let m = c .before .before in
-    let d = m .before .before in
-    let s = d .before .before in
-    ⊎-elim (λ w. rw (w .3) (choice-every _ (s .pre) _ (d .drawn .result .marks) (d .drawn .ensures .1) (d .drawn .ensures .0) _ (m .least .ensures) _ (w .1 .given .1) (w .2 .ensures)))
-    (λ w. rw (w .2) (choice-drawn _ (s .pre) _ (d .drawn .result .marks) (d .drawn .ensures .1) (d .drawn .ensures .0) _ (m .least .ensures) _ (w .1 .given .1)))
-    (c .before .match .came)
+returns c = choice-is _ _ _ _ (c .before .before .before .before .drawn .ensures .0) (c .before .before .victim .ensures) (c .moved .ensures)
 
 pub choose-spec : {M : Type 1} → statement M
-choose-spec =
-    tie.close
-    (tie.spec now-of-requires drawn-requires (λ c κs. search needs) (λ c. search needs) (λ c κs. search needs) (λ c. search needs) returns)
+choose-spec = tie.close (tie.spec now-of-requires drawn-requires victim-requires (λ c κs. search needs) returns)

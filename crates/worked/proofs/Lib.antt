@@ -1,0 +1,4 @@
+pub mod Steps
+pub mod Replacement
+pub mod Clock
+pub mod Watt
