@@ -67,7 +67,7 @@ module _ (p : Pool) (s : Sound p) where
   distance-small : (i : ℕ) → distance p i < 128
   distance-small i =
       let r = ranges (p .settings) (s .settings) .frames in
-      remainder-small (i + p .settings .frames - p .hand) (p .settings .frames) (r .0) (r .1)
+      remainder-small _ (p .settings .frames) (r .0) (r .1)
 
   whole-small : (n : ℕ) → n ≤ 70000000 → Small (fraction n 1)
   whole-small n h = record { num = h; den = omega arith }

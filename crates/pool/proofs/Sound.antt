@@ -54,7 +54,7 @@ pub record SoundFrame (p : Pool) (i : ℕ) : Type 0 where
 pub record Sound (p : Pool) : Type 0 where
   pub settings : inRange (p .settings) ≡ true
   pub hand : p .hand < p .settings .frames
-  pub few : p .k ≤ 50000
+  pub few : p .k ≤ referenceLimit
   pub frame : (i : ℕ) → i < 128 → SoundFrame p i
 
 -- two numbers apart, where both are asked for

@@ -9,6 +9,9 @@ ghost use Rattle.pool.specs.Pool.{oneFrame, emptyPool, freshOf, nowOf};
 ghost use Rattle.pool.specs.Sound.{placeSound, soundLog, zeroFrame, checkOf};
 ghost use Rattle.pool.specs.ByFrame.{pairSound, pairsSound, fieldsSound, besideSound, frameSound};
 
+// The greatest number of accepted references.
+pub const REFERENCE_LIMIT: u32 = 50000;
+
 pub struct Frame {
     pub used: bool,
     pub page: u32,
@@ -213,7 +216,7 @@ pub fn check(p: Pool) -> u32
     let st = p.settings;
     if settings::in_range(st) {
         let framed = frames_sound(p);
-        let whole = (p.hand < st.frames) & ((p.k <= 50000) & framed);
+        let whole = (p.hand < st.frames) & ((p.k <= REFERENCE_LIMIT) & framed);
         return refusal::demanded(whole, refusal::NOT_SOUND, 0);
     }
     refusal::NOT_SOUND

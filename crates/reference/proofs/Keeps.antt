@@ -17,7 +17,7 @@ use Rattle.settings.specs.declared.Settings.{Settings}
 use Rattle.settings.proofs.Laws.{ranges}
 use Rattle.pool.specs.declared.Frame.{Frame}
 use Rattle.pool.specs.declared.Pool.{Pool}
-use Rattle.pool.specs.Pool.{emptyFrame, frameAt, epochAt, nowOf, lastEpochOf, withCount}
+use Rattle.pool.specs.Pool.{referenceLimit, emptyFrame, frameAt, epochAt, nowOf, lastEpochOf, withCount}
 use Rattle.pool.proofs.Sound.{Sound}
 use Rattle.pool.proofs.Sizes.{Sized}
 use Rattle.pool.proofs.Quiet.{Alike, Quiet, sound-quiet}
@@ -69,7 +69,7 @@ module _ (p : Pool) (s : Sound p) where
   find-absent page j e l u q = false≢true (sym (least-none (has (p .frames) page) never 128 j e l) ∙ rw (u, eq-eqb (f j .page) page q))
 
   -- a frame in use of a sound pool is ready to be referred to
-  pub ready-of : (i : ℕ) → Sized p → p .k < 50000 → i < 128 → f i .used ≡ true → Ready p i
+  pub ready-of : (i : ℕ) → Sized p → p .k < referenceLimit → i < 128 → f i .used ≡ true → Ready p i
   ready-of i z room l u =
       let g = s .frame i l in record {
         sized = z;
@@ -135,16 +135,16 @@ module _ (p : Pool) (s : Sound p) (z : Sized p) (i : ℕ) (l : i < 128) (u : fra
   abbrev q : Pool
   q = withFrame p i (withCount (frameAt (p .frames) i) count)
 
-  hit-ready : p .k < 50000 → Ready q i
+  hit-ready : p .k < referenceLimit → Ready q i
   hit-ready room =
       ready-of q (frame-sound p s z i l (withCount (frameAt (p .frames) i) count) risen) i (frame-sized p s z i l (withCount (frameAt (p .frames) i) count) risen) room l
       (frame-used p s z i l (withCount (frameAt (p .frames) i) count) risen ∙ u)
 
-  pub hit-sound : (write : Bool) → p .k < 50000 → Sound (hitAt p i write)
+  pub hit-sound : (write : Bool) → p .k < referenceLimit → Sound (hitAt p i write)
   unfolding hitAt
   hit-sound write room = referred-sound q i write (hit-ready room)
 
-  pub hit-sized : (write : Bool) → p .k < 50000 → Sized (hitAt p i write)
+  pub hit-sized : (write : Bool) → p .k < referenceLimit → Sized (hitAt p i write)
   unfolding hitAt
   hit-sized write room = referred-sized q i write (hit-ready room)
 
@@ -204,7 +204,7 @@ module _ (p : Pool) (s : Sound p) (z : Sized p) (i page : ℕ) (l : i < p .setti
       (λ q _. absent m (omega arith) (under m (omega arith)))
       (λ _ u. s .frame j k .pages u m h))
 
-  fetch-ready : p .k < 50000 → Ready e i
+  fetch-ready : p .k < referenceLimit → Ready e i
   fetch-ready room = record {
     sized = record {
       frames = length-set (p .frames) i (newFrame page) ∙ z .frames;
@@ -227,16 +227,16 @@ module _ (p : Pool) (s : Sound p) (z : Sized p) (i page : ℕ) (l : i < p .setti
     lasts = λ j m h k a b u x. s .frame j k .lasts (rw (old j a) at u) m h (ap (λ (g : Frame). g .last) (sym (old m b)) ∙ x ∙ ap (λ (g : Frame). g .last) (old j a));
   }
 
-  pub fetch-sound : (write : Bool) → p .k < 50000 → Sound (fetchedAt p i page write)
+  pub fetch-sound : (write : Bool) → p .k < referenceLimit → Sound (fetchedAt p i page write)
   unfolding fetchedAt
   fetch-sound write room = referred-sound e i write (fetch-ready room)
 
-  pub fetch-sized : (write : Bool) → p .k < 50000 → Sized (fetchedAt p i page write)
+  pub fetch-sized : (write : Bool) → p .k < referenceLimit → Sized (fetchedAt p i page write)
   unfolding fetchedAt
   fetch-sized write room = referred-sized e i write (fetch-ready room)
 
 -- into the lowest unused frame, and into the frame of a victim where none is unused
-module _ (p : Pool) (s : Sound p) (z : Sized p) (page : ℕ) (miss : findPage (p .frames) page ≡ Nothing) (room : p .k < 50000) where
+module _ (p : Pool) (s : Sound p) (z : Sized p) (page : ℕ) (miss : findPage (p .frames) page ≡ Nothing) (room : p .k < referenceLimit) where
   pub unused-sound : (i : ℕ) (write : Bool) → lowestUnused p ≡ At i → Sound (fetchedAt p i page write)
   unfolding lowestUnused
   unused-sound i write h =

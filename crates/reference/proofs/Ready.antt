@@ -10,7 +10,7 @@ use lib.Seq.{getD-set-same, getD-set-other}
 use Rattle.settings.specs.Settings.{inRange}
 use Rattle.pool.specs.declared.Frame.{Frame}
 use Rattle.pool.specs.declared.Pool.{Pool}
-use Rattle.pool.specs.Pool.{emptyFrame, frameAt, epochAt, nowOf, lastEpochOf}
+use Rattle.pool.specs.Pool.{referenceLimit, emptyFrame, frameAt, epochAt, nowOf, lastEpochOf}
 use Rattle.pool.proofs.Sound.{Logged, SoundFrame, Sound}
 use Rattle.pool.proofs.Sizes.{Sized}
 use Rattle.reference.specs.Logs.{lengthWith}
@@ -44,7 +44,7 @@ pub record Ready (p : Pool) (i : ℕ) : Type 0 where
   pub sized : Sized p
   pub settings : inRange (p .settings) ≡ true
   pub hand : p .hand < p .settings .frames
-  pub room : p .k < 50000
+  pub room : p .k < referenceLimit
   pub frame : i < 128
   pub used : frameAt (p .frames) i .used ≡ true
   pub within : i < p .settings .frames

@@ -12,7 +12,7 @@ use Rattle.worth.proofs.Sizes.{worth-small, value-small}
 use Rattle.worth.proofs.Order.{less-asym, less-weak, worth-proper, value-proper}
 use Rattle.settings.proofs.Laws.{ranges}
 use Rattle.pool.specs.declared.Pool.{Pool}
-use Rattle.pool.specs.Pool.{frameAt, nowOf}
+use Rattle.pool.specs.Pool.{referenceLimit, frameAt, nowOf}
 use Rattle.pool.proofs.Sound.{Sound}
 use Rattle.victim.specs.Watt.{valueAt, lessValue}
 
@@ -20,10 +20,10 @@ use Rattle.victim.specs.Watt.{valueAt, lessValue}
 pub record Fitting (p : Pool) (i : ℕ) : Type 0 where
   pub accesses : frameAt (p .frames) i .accesses ≤ 8
   pub writes : frameAt (p .frames) i .writes ≤ 4
-  pub young : nowOf p ≤ 50000
+  pub young : nowOf p ≤ referenceLimit
   pub weight : p .settings .weight ≤ 16
 
-young : (p : Pool) → p .k ≤ 50000 → nowOf p ≤ 50000
+young : (p : Pool) → p .k ≤ referenceLimit → nowOf p ≤ referenceLimit
 unfolding nowOf
 young p h = le-trans (div-le-self (p .k) (p .settings .epoch)) h
 
@@ -36,7 +36,7 @@ fitting p i s l = record {
 }
 
 -- the worth of a log of up to 8 entries, as the code has found it
-pub found-small : (a : List ℕ) (at n epoch : ℕ) (w : Fraction) → w ≡ worthOf a at n epoch → n ≤ 8 → epoch ≤ 50000 → WorthSmall w
+pub found-small : (a : List ℕ) (at n epoch : ℕ) (w : Fraction) → w ≡ worthOf a at n epoch → n ≤ 8 → epoch ≤ referenceLimit → WorthSmall w
 found-small a at n epoch w e few young = rw e (worth-small a at n epoch few young)
 
 pub value-is : (p : Pool) (i epoch : ℕ) (access write v : Fraction) → epoch ≡ nowOf p
