@@ -11,7 +11,8 @@ use lib.Seq.{sets, getD-set-same, getD-set-other}
 use lib.Dec.{eqb}
 use borrow.Author.Tests.{eqb-true, eqb-false}
 use Rattle.search.specs.declared.Found.the-variants.{At, Nothing}
-use Rattle.search.specs.Search.{leastBelow, among}
+use Rattle.search.specs.declared.Found.{Found}
+use Rattle.search.specs.Search.{onFound, leastBelow, among}
 use Rattle.search.proofs.Least.{least-sound, least-cong}
 use Rattle.search.proofs.Among.{among-snoc}
 use Rattle.worth.specs.declared.Fraction.{Fraction}
@@ -37,6 +38,17 @@ others-rest waits before f n (suc m) e =
     ∙ others-more waits before f (m + n)
     ∙ ap (oneMore waits before f) (others-rest waits before f n m e)
     ∙ rw e
+
+-- more asked for, no fewer taken
+others-grow : (waits : ℕ → Bool) (before : ℕ → ℕ → Bool) (f n m : ℕ) → length (othersTo waits before f n) ≤ length (othersTo waits before f (m + n))
+others-grow waits before f n zero = rw (zero-add n) (omega arith)
+others-grow waits before f n (suc m) =
+    let h = others-grow waits before f n m in
+    rw (suc-add m n, others-more waits before f (m + n)) (one (leastBelow (left waits before f (othersTo waits before f (m + n))) before f) (othersTo waits before f (m + n)) h)
+  where
+    one : (r : Found) (xs : List ℕ) → length (othersTo waits before f n) ≤ length xs → length (othersTo waits before f n) ≤ length (onFound r (λ i. xs ++ (i ∷ [])) xs)
+    one (At i) xs h = rw (length-append xs (i ∷ [])) (omega arith)
+    one Nothing xs h = h
 
 module _ (fs : List Frame) (marks : List Bool) (ranks : List Fraction) (f at : ℕ) (out₀ : List ℕ) where
   abbrev waits : ℕ → Bool
@@ -73,6 +85,15 @@ module _ (fs : List Frame) (marks : List Bool) (ranks : List Fraction) (f at : �
 
       next-taken : taken (n + 1) ≡ taken n ++ (i ∷ [])
       next-taken = ap (othersTo waits before f) (add-one n) ∙ others-more waits before f n ∙ rw (sym same-search ∙ e)
+
+      -- and there is a place for it
+      pub found-room : (most : ℕ) → n < most → n < length (taken most)
+      found-room most l =
+          let q : most - (n + 1) + (n + 1) ≡ most = omega arith in
+          let grow = others-grow waits before f (n + 1) (most - (n + 1)) in
+          let more : length (taken (n + 1)) ≡ length (taken n) + 1 = ap length next-taken ∙ length-append (taken n) (i ∷ []) in
+          let count = b .count in
+          subst (λ (k : ℕ). n < length (taken k)) q (omega arith)
 
       marks-more : length ws ≡ 128 → f ≤ 128 → (j : ℕ) → j < f → getD (set ws i false) j false ≡ left waits before f (taken n ++ (i ∷ [])) j
       marks-more long few j l = go (eqb i j) refl

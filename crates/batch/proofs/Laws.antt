@@ -16,6 +16,7 @@ use Rattle.pool.specs.declared.Frame.{Frame}
 use Rattle.pool.specs.declared.Pool.{Pool}
 use Rattle.pool.specs.Pool.{frameAt}
 use Rattle.pool.proofs.Sound.{Sound}
+use Rattle.pool.proofs.Sizes.{Sized}
 use Rattle.pool.proofs.Quiet.{Alike, Quiet, sound-quiet}
 use Rattle.victim.specs.Watt.{valueAt}
 use Rattle.victim.proofs.Rules.{by-rule}
@@ -25,7 +26,7 @@ use Rattle.batch.specs.Batch.{distance, batchOrder, waits, batchOf, clea
 use Rattle.batch.specs.Ranks.{rankOf}
 use Rattle.batch.proofs.Ranks.{rank-order}
 use Rattle.batch.proofs.Taken.{Chosen, chosen, Enough, enough}
-use Rattle.batch.proofs.Cleaned.{cleaned-at}
+use Rattle.batch.proofs.Cleaned.{cleaned-at, cleaned-length}
 
 -- the pool with other frames
 abbrev pub withFrames : Pool → List Frame → Pool
@@ -105,3 +106,7 @@ module _ (p : Pool) (s : Sound p) where
   -- what a batch leaves is sound
   pub batch-sound : (v : ℕ) → Sound (withFrames p (cleaned (p .frames) (batchOf p v)))
   batch-sound v = sound-quiet p (withFrames p (cleaned (p .frames) (batchOf p v))) s (cleaned-quiet (batchOf p v))
+
+-- and as long as it was
+pub batch-sized : (p : Pool) (v : ℕ) → Sized p → Sized (withFrames p (cleaned (p .frames) (batchOf p v)))
+batch-sized p v z = record { frames = cleaned-length (p .frames) (batchOf p v) ∙ z .frames; access = z .access; write = z .write }

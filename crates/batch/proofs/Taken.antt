@@ -1,4 +1,4 @@
--- The others of a batch are exactly the least ones in its order: sorted, none left out that comes before one taken, and all of them where the
+-- The others of a batch are exactly the least ones in its order: sorted, none twice, none left out that comes before one taken, and all where the
 -- batch is not full.
 use mathlib.Core.Path.{_≡_, refl, ap, sym, subst, _∙_}
 use mathlib.Core.Bool.{Bool, true, false, _&&_, _||_, not, true≢false, and-eq-true-iff}
@@ -26,6 +26,11 @@ unfoldable pub Sorted : (ℕ → ℕ → Bool) → List ℕ → Type 0
 Sorted before [] = Unit {0}
 Sorted before (x ∷ xs) = All (Before before x) xs × Sorted before xs
 
+-- none stands twice
+unfoldable pub Distinct : List ℕ → Type 0
+Distinct [] = Unit {0}
+Distinct (x ∷ xs) = All (λ y. x ≡ y → ⊥) xs × Distinct xs
+
 module _ (waits : ℕ → Bool) (before : ℕ → ℕ → Bool) (f : ℕ) (ord : Order before) where
   abbrev others : ℕ → List ℕ
   others n = othersTo waits before f n
@@ -37,6 +42,19 @@ module _ (waits : ℕ → Bool) (before : ℕ → ℕ → Bool) (f : ℕ) (ord :
   unfolding Sorted All
   sorted-snoc [] y s a = (tt, tt)
   sorted-snoc (x ∷ xs) y s a = (all-snoc (Before before x) xs y (s .0) (a .0), sorted-snoc xs y (s .1) (a .1))
+
+  distinct-snoc : (xs : List ℕ) (y : ℕ) → Distinct xs → among xs y ≡ false → Distinct (xs ++ (y ∷ []))
+  unfolding Distinct All among
+  distinct-snoc [] y s a = (tt, tt)
+  distinct-snoc (x ∷ xs) y s a = go (eqb x y) refl a (distinct-snoc xs y (s .1))
+    where
+      go : (t : Bool) → eqb x y ≡ t → (t || among xs y) ≡ false → (among xs y ≡ false → Distinct (xs ++ (y ∷ []))) → All (λ z. x ≡ z → ⊥) (xs ++ (y ∷ [])) × Distinct (xs ++ (y ∷ []))
+      go true e h rest = absurd (true≢false h)
+      go false e h rest = (all-snoc (λ z. x ≡ z → ⊥) xs y (s .0) (eqb-false x y e), rest h)
+
+  none-distinct : Distinct []
+  unfolding Distinct
+  none-distinct = tt
 
   -- what waits after one more was taken waited before, and is another
   earlier : (xs : List ℕ) (i j : ℕ) → still (xs ++ (i ∷ [])) j ≡ true → (still xs j ≡ true) × (i ≡ j → ⊥)
@@ -53,6 +71,7 @@ module _ (waits : ℕ → Bool) (before : ℕ → ℕ → Bool) (f : ℕ) (ord :
   pub record Chosen (xs : List ℕ) : Type 0 where
     pub waiting : All (λ t. (t < f) × (waits t ≡ true)) xs
     pub sorted : Sorted before xs
+    pub distinct : Distinct xs
     pub least : (j : ℕ) → j < f → still xs j ≡ true → All (λ t. Before before t j) xs
 
   taken : (xs : List ℕ) → Chosen xs → (i : ℕ) → leastBelow (still xs) before f ≡ At i → Chosen (xs ++ (i ∷ []))
@@ -61,6 +80,7 @@ module _ (waits : ℕ → Bool) (before : ℕ → ℕ → Bool) (f : ℕ) (ord :
       let a = and-eq-true-iff (waits i) (not (among xs i)) .0 (w .1) in record {
         waiting = all-snoc (λ t. (t < f) × (waits t ≡ true)) xs i (c .waiting) (w .0, a .0);
         sorted = sorted-snoc xs i (c .sorted) (c .least i (w .0) (w .1));
+        distinct = distinct-snoc xs i (c .distinct) (denied (among xs i) (a .1));
         least = λ j l h. let p = earlier xs i j h in
             all-snoc (λ t. Before before t j) xs i (c .least j l (p .0))
             (least-least (still xs) before ord f i j e l (p .0), λ k. least-lowest (still xs) before ord f i j e k (p .0));
@@ -79,7 +99,7 @@ module _ (waits : ℕ → Bool) (before : ℕ → ℕ → Bool) (f : ℕ) (ord :
 
   pub chosen : (n : ℕ) → Chosen (others n)
   unfolding othersTo
-  chosen zero = record { waiting = all-none (λ t. (t < f) × (waits t ≡ true)); sorted = none-sorted; least = λ j l h. all-none (λ t. Before before t j) }
+  chosen zero = record { waiting = all-none (λ t. (t < f) × (waits t ≡ true)); sorted = none-sorted; distinct = none-distinct; least = λ j l h. all-none (λ t. Before before t j) }
   chosen (suc n) = one-more (others n) (chosen n)
 
   -- as many as were asked for; or fewer, and then none is left

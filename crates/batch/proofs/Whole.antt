@@ -46,6 +46,11 @@ module _ (ok ok′ : ℕ → Bool) (before before′ : ℕ → ℕ → Bool) (f 
       ap (oneMore ok before f) (others-same n)
       ∙ ap (λ (r : Found). onFound r (λ i. othersTo ok′ before′ f n ++ (i ∷ [])) (othersTo ok′ before′ f n)) (next-same (othersTo ok′ before′ f n))
 
+-- a place for the victim
+pub first-room : (p : Pool) (v at n : ℕ) → frameAt (p .frames) v .dirty ≡ true → at + length (batchOf p v) ≤ n → at < n
+unfolding batchOf
+first-room p v at n d h = let r = rw d at h in omega arith
+
 module _ (p : Pool) (s : Sound p) (v : ℕ) (marks : List Bool) (ranks : List Fraction) (k : RankedTo p v (p .settings .frames) marks ranks) where
   pub ranks-small : (i : ℕ) → i < p .settings .frames → Small (rankAt ranks i)
   ranks-small i l =
@@ -61,6 +66,12 @@ module _ (p : Pool) (s : Sound p) (v : ℕ) (marks : List Bool) (ranks : List Fr
 
   others-ranked : (n : ℕ) → othersBy marks ranks (p .settings .frames) n ≡ othersTo (waits p v) (batchOrder p) (p .settings .frames) n
   others-ranked = others-same (λ i. getD marks i false) (waits p v) (λ i j. lessFraction (rankAt ranks i) (rankAt ranks j)) (batchOrder p) (p .settings .frames) (k .waiting) in-order
+
+  -- and places for the others after the victim
+  pub rest-room : (at : ℕ) (l : List ℕ) (x : ℕ) → frameAt (p .frames) v .dirty ≡ true → at + length (batchOf p v) ≤ length l
+      → at + 1 + length (othersBy marks ranks (p .settings .frames) (p .settings .batch - 1)) ≤ length (set l at x)
+  unfolding batchOf
+  rest-room at l x d h = let r = rw d at h in rw (length-set l at x, others-ranked (p .settings .batch - 1)) (omega arith)
 
   -- as the code puts it together
   pub dirty-written : (at : ℕ) (g : Frame) (rest : Written) (before after : List ℕ) → frameAt (p .frames) v .dirty ≡ true → g ≡ cleanFrame (frameAt (p .frames) v)
@@ -80,10 +91,6 @@ module _ (p : Pool) (s : Sound p) (v : ℕ) (marks : List Bool) (ranks : List Fr
 pub clean-written : (p : Pool) (v at : ℕ) (before : List ℕ) → frameAt (p .frames) v .dirty ≡ false → WrittenBy p v at (record { frames = p .frames; count = 0 }) before before
 unfolding batchOf cleaned pagesOf
 clean-written p v at before d = rw d (record { frames = refl; count = refl; list = refl })
-
--- the places that are left after the victim's
-pub room-after : (l : List ℕ) (at n x : ℕ) → 1 ≤ n → at + n ≤ length l → at + 1 + (n - 1) ≤ length (set l at x)
-room-after l at n x h r = rw (length-set l at x) (omega arith)
 
 -- and the list is as long as it was
 pub wrote-length : (fs : List Frame) (taken : List ℕ) (at : ℕ) (r : Written) (l after : List ℕ) (i x : ℕ) → Wrote fs taken at r (set l i x) after → length after ≡ length l

@@ -37,6 +37,7 @@ waits p v i = (frameAt (p .frames) i .dirty && unpinned (p .frames) i) && not (e
 unfoldable pub batchOf : Pool → ℕ → List ℕ
 batchOf p v = pick (frameAt (p .frames) v .dirty) (v ∷ othersTo (waits p v) (batchOrder p) (p .settings .frames) (p .settings .batch - 1)) []
 
+-- a frame that was written back
 abbrev pub cleanFrame : Frame → Frame
 cleanFrame fr = record { used = fr .used; page = fr .page; dirty = false; pins = fr .pins; count = fr .count; last = fr .last; accesses = fr .accesses; writes = fr .writes }
 

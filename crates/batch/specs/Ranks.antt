@@ -21,6 +21,7 @@ rankOf p i = byRule (p .settings .rule) (fraction (frameAt (p .frames) i .last) 
 abbrev pub rankWhere : Bool → Pool → ℕ → Fraction
 rankWhere on p i = pick on (rankOf p i) (fraction 0 1)
 
+-- the rank that the array holds for frame i
 abbrev pub rankAt : List Fraction → ℕ → Fraction
 rankAt ranks i = getD ranks i (fraction 0 0)
 

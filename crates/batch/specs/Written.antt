@@ -25,11 +25,11 @@ pub record Wrote (fs : List Frame) (taken : List ℕ) (at : ℕ) (r : Written) (
   pub count : r .count ≡ length taken
   pub list : after ≡ sets before at (pagesOf fs taken)
 
--- a sound pool, a frame, and as many places from `at` on as the batch size
+-- a sound pool, a frame, and as many places from `at` on as the batch is long
 pub record Batchable (p : Pool) (v at places : ℕ) : Type 0 where
   pub sound : soundPool p ≡ true
   pub frame : v < 128
-  pub room : at + p .settings .batch ≤ places
+  pub room : at + length (batchOf p v) ≤ places
 
 -- all batch pages become clean; the pages written go, in order, to the lent list, and every other place keeps its contents
 abbrev pub WrittenBy : Pool → ℕ → ℕ → Written → List ℕ → List ℕ → Type 0

@@ -134,7 +134,7 @@ fn write_others(
     out: &mut [u32],
     at: usize,
 ) -> Written
-    requires { ⌜ (f ≤ 128) × ((i : ℕ) → i < f → Small (rankAt ranks i)) × (at + most ≤ length (now out)) ⌝ }
+    requires { ⌜ (f ≤ 128) × ((i : ℕ) → i < f → Small (rankAt ranks i)) × (at + length (othersBy marks ranks f most) ≤ length (now out)) ⌝ }
     ensures { λ r. ⌜ Wrote frames (othersBy marks ranks f most) at r (now (out .entry)) (now (out .exit)) × (r .count ≤ most) ⌝ }
 {
     let mut gs = frames;

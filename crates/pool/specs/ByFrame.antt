@@ -12,9 +12,11 @@ use Rattle.pool.specs.Sound.{zeroFrame, countCapped, accessLogSound, wri
 abbrev pub pairSound : Frame → Frame → Bool
 pairSound other fr = other .used && (not (eqb (other .page) (fr .page)) && not (eqb (other .last) (fr .last)))
 
+-- frame j beside frame i
 abbrev pub pairAt : Pool → ℕ → ℕ → Bool
 pairAt p i j = pairSound (frameAt (p .frames) j) (frameAt (p .frames) i)
 
+-- every frame before i beside it
 unfoldable pub pairsSound : Pool → ℕ → Bool
 pairsSound p i = everyBelow (pairAt p i) i
 
@@ -22,11 +24,13 @@ pairsSound p i = everyBelow (pairAt p i) i
 abbrev pub fieldsSound : Frame → ℕ → ℕ → ℕ → Bool
 fieldsSound fr i frames k = ltb i frames && (ltb (fr .last) k && (ltb 0 (fr .accesses) && (not (fr .dirty) || ltb 0 (fr .writes))))
 
+-- frame i in use, with those before it; or all zero
 unfoldable pub besideSound : Pool → ℕ → Bool
 besideSound p i =
     pick (frameAt (p .frames) i .used)
     (fieldsSound (frameAt (p .frames) i) i (p .settings .frames) (p .k) && pairsSound p i)
     (zeroFrame (frameAt (p .frames) i))
 
+-- all of frame i
 unfoldable pub frameSound : Pool → ℕ → Bool
 frameSound p i = (countCapped p i && besideSound p i) && (accessLogSound p i && writeLogSound p i)

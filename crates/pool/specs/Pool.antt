@@ -23,6 +23,7 @@ frameRoom = 128
 abbrev pub accessRoom : ℕ
 accessRoom = 8
 
+-- the latter
 abbrev pub writeRoom : ℕ
 writeRoom = 4
 
@@ -30,6 +31,7 @@ writeRoom = 4
 abbrev pub emptyFrame : Frame
 emptyFrame = record { used = false; page = 0; dirty = false; pins = 0; count = 0; last = 0; accesses = 0; writes = 0 }
 
+-- frame i; past the last, an empty one
 abbrev pub frameAt : List Frame → ℕ → Frame
 frameAt fs i = getD fs i emptyFrame
 
@@ -44,7 +46,7 @@ emptyPool s = record {
   k = 0;
   hand = 0;
   sampler = s .seed;
-  frames = replicate 128 emptyFrame;
+  frames = replicate frameRoom emptyFrame;
   access = replicate 1024 0;
   write = replicate 512 0;
 }
@@ -53,6 +55,7 @@ emptyPool s = record {
 abbrev pub oneFrame : Settings
 oneFrame = record { rule = 0; frames = 1; batch = 1; cap = 1; sample = 1; weight = 0; epoch = 1; seed = 0 }
 
+-- a refusal or 0, and a pool
 abbrev pub opened : ℕ → Pool → Opened
 opened r p = record { refusal = r; pool = p }
 

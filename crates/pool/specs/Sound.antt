@@ -39,6 +39,7 @@ zeroFrame fr =
 abbrev pub placeSound : ℕ → ℕ → ℕ → ℕ → ℕ → Bool
 placeSound j n epoch newer t = pick (ltb j n) ((eqb j 0 || ltb t newer) && leb t epoch) (eqb t 0)
 
+-- the same, the numbers taken from the array
 abbrev pub placeAt : List ℕ → ℕ → ℕ → ℕ → ℕ → Bool
 placeAt a at n epoch j = placeSound j n epoch (getD a (at + (j - 1)) 0) (getD a (at + j) 0)
 
@@ -47,6 +48,7 @@ unfoldable pub soundLog : List ℕ → ℕ → ℕ → ℕ → ℕ → Bool
 soundLog a at room n epoch = leb n room && everyBelow (placeAt a at n epoch) room
 
 module _ (p : Pool) (i : ℕ) where
+  -- in use
   abbrev pub used : Bool
   used = frameAt (p .frames) i .used
 
@@ -82,6 +84,7 @@ module _ (p : Pool) (i : ℕ) where
   abbrev pub accessLogSound : Bool
   accessLogSound = soundLog (p .access) (i * accessRoom) accessRoom (frameAt (p .frames) i .accesses) (lastEpochOf p i)
 
+  -- the write log likewise
   abbrev pub writeLogSound : Bool
   writeLogSound = soundLog (p .write) (i * writeRoom) writeRoom (frameAt (p .frames) i .writes) (lastEpochOf p i)
 

@@ -18,6 +18,7 @@ pub record Referable (p : Pool) (i : ℕ) : Type 0 where
 abbrev pub withFrame : Pool → ℕ → Frame → Pool
 withFrame p i fr = record { settings = p .settings; k = p .k; hand = p .hand; sampler = p .sampler; frames = set (p .frames) i fr; access = p .access; write = p .write }
 
+-- a frame with another pin count
 abbrev pub withPins : Frame → ℕ → Frame
 withPins fr n = record { used = fr .used; page = fr .page; dirty = fr .dirty; pins = n; count = fr .count; last = fr .last; accesses = fr .accesses; writes = fr .writes }
 

@@ -9,6 +9,7 @@ use Rattle.pool.specs.declared.Pool.{Pool}
 use Rattle.pool.specs.Pool.{frameRoom, frameAt}
 use Rattle.pool.specs.Sound.{holdsPage}
 
+-- whether frame i is in use and holds the page
 abbrev pub has : List Frame → ℕ → ℕ → Bool
 has fs page i = holdsPage page (frameAt fs i)
 
@@ -16,6 +17,7 @@ has fs page i = holdsPage page (frameAt fs i)
 unfoldable pub findPage : List Frame → ℕ → Found
 findPage fs page = leastBelow (has fs page) never frameRoom
 
+-- whether frame i is unused
 abbrev pub unused : List Frame → ℕ → Bool
 unused fs i = not (frameAt fs i .used)
 

@@ -21,6 +21,7 @@ abbrev pub better : (ℕ → ℕ → Bool) → ℕ → Found → Found
 better less n Nothing = At n
 better less n (At b) = pick (less n b) (At n) (At b)
 
+-- n is offered where it passes the test
 abbrev pub offer : (ℕ → Bool) → (ℕ → ℕ → Bool) → ℕ → Found → Found
 offer ok less n prev = pick (ok n) (better less n prev) prev
 

@@ -4,7 +4,8 @@ use mathlib.Core.Bool.{true, false}
 use mathlib.Core.List.{List, [], _∷_, map}
 use Prim.Native.Nat.{ℕ, zero, suc, _≤_, _<_}
 use native.Mathlib.Omega.{arith}
-use lib.ListN.{set, List·getD-map}
+use lib.ListN.{length, set, List·getD-map}
+use lib.Dec.{eqb}
 use Rattle.search.specs.declared.Found.the-variants.{At, Nothing}
 use Rattle.search.specs.Search.{pick}
 use Rattle.pool.specs.declared.Frame.{Frame}
@@ -37,23 +38,31 @@ map-set f [] i a = refl
 map-set f (x ∷ xs) zero a = refl
 map-set {B = B} f (x ∷ xs) (suc i) a = ap (λ (r : List B). f x ∷ r) (map-set f xs i a)
 
--- a frame after: as before but for its count, which is not raised
+-- a frame after: as before but for its count, which is not raised, and a pinned one untouched
 pub record Lowered (fr g : Frame) : Type 0 where
   pub kept : g ≡ withCount fr (g .count)
   pub low : g .count ≤ fr .count
+  pub pinned : eqb (fr .pins) 0 ≡ false → g ≡ fr
 
 pub lowered-same : (fr : Frame) → Lowered fr fr
-lowered-same fr = record { kept = refl; low = omega arith }
+lowered-same fr = record { kept = refl; low = omega arith; pinned = λ _. refl }
 
 pub lowered-more : (fr g h : Frame) → Lowered fr g → Lowered g h → Lowered fr h
-lowered-more fr g h a b = let x = a .low in let y = b .low in record { kept = b .kept ∙ ap (λ (z : Frame). withCount z (h .count)) (a .kept); low = omega arith }
+lowered-more fr g h a b =
+    let x = a .low in
+    let y = b .low in record {
+      kept = b .kept ∙ ap (λ (z : Frame). withCount z (h .count)) (a .kept);
+      low = omega arith;
+      pinned = λ e. b .pinned (ap (λ (z : Frame). eqb (z .pins) 0) (a .pinned e) ∙ e) ∙ a .pinned e;
+    }
 
 -- What each rule owes, one list for all.
 pub record Owes (choose : Pool → Choice) : Type 0 where
   pub unpinned : (p : Pool) (v : ℕ) → Sound p → choose p .found ≡ At v → (v < p .settings .frames) × (unpinned (p .frames) v ≡ true)
   pub none : (p : Pool) → (choose p .found ≡ Nothing → AllPinned p) × (AllPinned p → choose p .found ≡ Nothing)
   pub still : (p : Pool) → choose p .found ≡ Nothing → leftBy p (choose p) ≡ p
-  pub keeps : (p : Pool) (i : ℕ) → frameAt (choose p .frames) i ≡ withCount (frameAt (p .frames) i) (frameAt (choose p .frames) i .count)
+  pub lowers : (p : Pool) (i : ℕ) → Lowered (frameAt (p .frames) i) (frameAt (choose p .frames) i)
+  pub long : (p : Pool) → length (choose p .frames) ≡ length (p .frames)
   pub quiet : (p : Pool) → Sound p → Quiet p (leftBy p (choose p))
   pub sound : (p : Pool) → Sound p → Sound (leftBy p (choose p))
   pub pages : (ρ : ℕ → ℕ) (p : Pool) → choose (repagedPool ρ p) ≡ repagedChoice ρ (choose p)

@@ -3,18 +3,20 @@ use mathlib.Core.Path.{_≡_, refl, sym, _∙_}
 use mathlib.Core.Bool.{true}
 use Prim.Native.Nat.{ℕ, zero, suc, _≤_, _<_}
 use native.Mathlib.Omega.{arith}
+use lib.ListN.{length}
 use Rattle.search.specs.declared.Found.the-variants.{At, Nothing}
 use Rattle.pool.specs.declared.Pool.{Pool}
 use Rattle.pool.specs.Pool.{frameAt, withCount}
 use Rattle.pool.proofs.Sound.{Sound}
 use Rattle.pool.proofs.Quiet.{Quiet}
+use Rattle.pool.proofs.Sizes.{Sized}
 use Rattle.victim.specs.declared.Choice.{Choice}
 use Rattle.victim.specs.Choice.{unpinned, leftBy}
 use Rattle.victim.specs.Lru.{lruChoice}
 use Rattle.victim.specs.Clock.{clockChoice}
 use Rattle.victim.specs.Watt.{wattChoice}
 use Rattle.victim.specs.Rules.{byRule, choiceOf}
-use Rattle.victim.proofs.Owed.{AllPinned, repagedPool, repagedChoice, Owes}
+use Rattle.victim.proofs.Owed.{AllPinned, Lowered, repagedPool, repagedChoice, Owes}
 use Rattle.victim.proofs.lru.Laws.{lru-owes}
 use Rattle.victim.proofs.clock.Laws.{clock-owes}
 use Rattle.victim.proofs.watt.Laws.{watt-owes}
@@ -63,8 +65,13 @@ choice-owes = record {
   unpinned = λ p v s. by-choice (λ q c. c .found ≡ At v → (v < q .settings .frames) × (unpinned (q .frames) v ≡ true)) p (lru-owes .unpinned p v s) (clock-owes .unpinned p v s) (watt-owes .unpinned p v s);
   none = λ p. by-choice (λ q c. (c .found ≡ Nothing → AllPinned q) × (AllPinned q → c .found ≡ Nothing)) p (lru-owes .none p) (clock-owes .none p) (watt-owes .none p);
   still = λ p. by-choice (λ q c. c .found ≡ Nothing → leftBy q c ≡ q) p (lru-owes .still p) (clock-owes .still p) (watt-owes .still p);
-  keeps = λ p i. by-choice (λ q c. frameAt (c .frames) i ≡ withCount (frameAt (q .frames) i) (frameAt (c .frames) i .count)) p (lru-owes .keeps p i) (clock-owes .keeps p i) (watt-owes .keeps p i);
+  lowers = λ p i. by-choice (λ q c. Lowered (frameAt (q .frames) i) (frameAt (c .frames) i)) p (lru-owes .lowers p i) (clock-owes .lowers p i) (watt-owes .lowers p i);
+  long = λ p. by-choice (λ q c. length (c .frames) ≡ length (q .frames)) p (lru-owes .long p) (clock-owes .long p) (watt-owes .long p);
   quiet = λ p s. by-choice (λ q c. Quiet q (leftBy q c)) p (lru-owes .quiet p s) (clock-owes .quiet p s) (watt-owes .quiet p s);
   sound = λ p s. by-choice (λ q c. Sound (leftBy q c)) p (lru-owes .sound p s) (clock-owes .sound p s) (watt-owes .sound p s);
   pages = choice-pages;
 }
+
+-- and what it leaves is as long as it was
+pub choice-sized : (p : Pool) → Sized p → Sized (leftBy p (choiceOf p))
+choice-sized p z = record { frames = choice-owes .long p ∙ z .frames; access = z .access; write = z .write }

@@ -22,6 +22,7 @@ abbrev pub passedFrame : Frame → Frame
 passedFrame fr = withCount fr (pick (eqb (fr .pins) 0) (fr .count - 1) (fr .count))
 
 -- the frames when the hand has passed frame h
+-- the frames when frame h is passed
 abbrev pub passed : List Frame → ℕ → List Frame
 passed fs h = set fs h (passedFrame (frameAt fs h))
 
@@ -34,6 +35,11 @@ unfoldable pub sweepFrom : ℕ → ℕ → ℕ → List Frame → ℕ × List Fr
 sweepFrom zero f h fs = (h, fs)
 sweepFrom (suc n) f h fs = let r = sweepFrom n f (nextHand f h) (passed fs h) in pick (rests (frameAt fs h)) (h, fs) r
 
+-- how many frames that takes, the one that it rests on among them
+unfoldable pub visits : ℕ → ℕ → ℕ → List Frame → ℕ
+visits zero f h fs = 0
+visits (suc n) f h fs = let r = visits n f (nextHand f h) (passed fs h) in suc (pick (rests (frameAt fs h)) 0 r)
+
 -- from the hand; this takes at most f × (cap + 1) frames visited
 unfoldable pub sweepOf : Pool → ℕ × List Frame
 sweepOf p = sweepFrom (p .settings .frames * (p .settings .cap + 1)) (p .settings .frames) (p .hand) (p .frames)
@@ -42,6 +48,7 @@ sweepOf p = sweepFrom (p .settings .frames * (p .settings .cap + 1)) (p .setting
 abbrev pub restedAt : Pool → ℕ × List Frame → Choice
 restedAt p r = record { found = At (r .0); hand = nextHand (p .settings .frames) (r .0); sampler = p .sampler; frames = r .1 }
 
+-- what the sweep leaves
 unfoldable pub sweptChoice : Pool → Choice
 sweptChoice p = restedAt p (sweepOf p)
 

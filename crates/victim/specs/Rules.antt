@@ -6,7 +6,7 @@ use Rattle.victim.specs.Lru.{lruChoice}
 use Rattle.victim.specs.Clock.{clockChoice}
 use Rattle.victim.specs.Watt.{wattChoice}
 
--- 0 LRU, 1 generalised clock, 2 WATT
+-- 0 LRU, 1 generalised clock, 2 WATT, and so any other number, which no sound pool has
 abbrev pub byRule {ℓ} : {A : Type ℓ} → ℕ → A → A → A → A
 byRule zero lru clock watt = lru
 byRule (suc zero) lru clock watt = clock

@@ -12,6 +12,7 @@ use Rattle.pool.specs.Pool.{accessRoom, writeRoom, frameAt, nowOf}
 use Rattle.victim.specs.declared.Choice.{Choice}
 use Rattle.victim.specs.Choice.{unpinned}
 
+-- what each draw adds
 abbrev pub samplerStep : ℕ
 samplerStep = 2654435769
 
@@ -37,6 +38,7 @@ module _ (p : Pool) where
       (worthOf (p .write) (i * writeRoom) (frameAt (p .frames) i .writes) (nowOf p))
       (p .settings .weight)
 
+  -- by value, exactly
   abbrev pub lessValue : ℕ → ℕ → Bool
   lessValue i j = lessFraction (valueAt i) (valueAt j)
 

@@ -1,4 +1,4 @@
--- Worked examples, computed by the checker.
+-- Sweeps worked by hand: counts lowered, pinned frames passed, all pinned.
 use mathlib.Core.Path.{_≡_, refl}
 use mathlib.Core.Bool.{true, false}
 use mathlib.Core.List.{List, _∷_}
@@ -29,26 +29,26 @@ poolOf f cap hand fs = record {
   write = replicate 512 0;
 }
 
--- P7: clock, f 3, cap 2, after reads 1 2 3 1 the counts are 2 1 1 and the hand is 0: page 2 leaves frame 1, hand 2
-abbrev pub seventh : Pool
-seventh = poolOf 3 2 0 (held 1 0 2 3 ∷ held 2 0 1 1 ∷ held 3 0 1 2 ∷ replicate 125 emptyFrame)
+-- f 3, cap 2, the hand on frame 0: counts 2, 1 and 1, as after P7's reads
+abbrev pub counted : Pool
+counted = poolOf 3 2 0 (held 1 0 2 3 ∷ held 2 0 1 1 ∷ held 3 0 1 2 ∷ replicate 125 emptyFrame)
 
-pub p7-sound : soundPool seventh ≡ true
+pub counted-sound : soundPool counted ≡ true
 unfolding soundPool inRange everyBelow soundLog lastEpochOf
-p7-sound = refl
+counted-sound = refl
 
-pub p7-victim : clockChoice seventh .found ≡ At 1
+pub counted-victim : clockChoice counted .found ≡ At 1
 unfolding clockChoice sweptChoice sweepOf sweepFrom anyUnpinned leastBelow
-p7-victim = refl
+counted-victim = refl
 
-pub p7-hand : clockChoice seventh .hand ≡ 2
+pub counted-hand : clockChoice counted .hand ≡ 2
 unfolding clockChoice sweptChoice sweepOf sweepFrom anyUnpinned leastBelow
-p7-hand = refl
+counted-hand = refl
 
 -- counts 2 1 1 were lowered to 0 0 0 in four visits, and the fifth rests
-pub p7-frames : clockChoice seventh .frames ≡ held 1 0 0 3 ∷ held 2 0 0 1 ∷ held 3 0 0 2 ∷ replicate 125 emptyFrame
+pub counted-frames : clockChoice counted .frames ≡ held 1 0 0 3 ∷ held 2 0 0 1 ∷ held 3 0 0 2 ∷ replicate 125 emptyFrame
 unfolding clockChoice sweptChoice sweepOf sweepFrom anyUnpinned leastBelow
-p7-frames = refl
+counted-frames = refl
 
 -- pinned frames are passed untouched
 pub pinned-passed : clockChoice (poolOf 3 2 0 (held 1 1 2 3 ∷ held 2 0 1 1 ∷ held 3 1 0 2 ∷ replicate 125 emptyFrame)) .frames ≡ held 1 1 2 3 ∷ held 2 0 0 1 ∷ held 3 1 0 2 ∷ replicate 125 emptyFrame
@@ -60,12 +60,12 @@ pub all-pinned : clockChoice (poolOf 2 2 1 (held 1 1 2 0 ∷ held 2 1 0 1 ∷ re
 unfolding clockChoice sweptChoice sweepOf sweepFrom anyUnpinned leastBelow
 all-pinned = refl
 
--- 128 frames, each count 7: the hand goes round seven times and rests on the first
+-- 128 frames, each count 7, pages and last steps left aside: the hand goes round seven times and rests on the first
 pub longest : clockChoice (poolOf 128 7 0 (replicate 128 (held 1 0 7 0))) .found ≡ At 0
 unfolding clockChoice sweptChoice sweepOf sweepFrom anyUnpinned leastBelow
 longest = refl
 
 -- the same frames under LRU: frame 1, the least last step
-pub lru-victim : lruChoice seventh .found ≡ At 1
+pub lru-victim : lruChoice counted .found ≡ At 1
 unfolding lruChoice lruVictim leastBelow
 lru-victim = refl

@@ -36,6 +36,10 @@ inTurn write p (page ∷ pages) = inTurn write (referredTo p page write) pages
 abbrev pub leaving : Pool → List ℕ
 leaving p = onFound (choiceOf p .found) (λ v. v ∷ frameAt (p .frames) v .page ∷ choiceOf p .hand ∷ []) []
 
--- the page of the next victim, and the pages written with it
+-- the pages written with it
 abbrev pub written : Pool → List ℕ
-written p = onFound (choiceOf p .found) (λ v. frameAt (p .frames) v .page ∷ pagesOf (p .frames) (batchOf (leftBy p (choiceOf p)) v)) []
+written p = onFound (choiceOf p .found) (λ v. pagesOf (p .frames) (batchOf (leftBy p (choiceOf p)) v)) []
+
+-- the pages in the first three frames
+abbrev pub held : Pool → List ℕ
+held p = frameAt (p .frames) 0 .page ∷ frameAt (p .frames) 1 .page ∷ frameAt (p .frames) 2 .page ∷ []

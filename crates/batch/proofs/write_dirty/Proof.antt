@@ -1,9 +1,11 @@
 use native.Mathlib.Omega.{arith}
+use lib.ListN.{length}
 use denote.Ref.{now}
 use Rattle.pool.specs.Pool.{frameAt}
+use Prim.Native.Nat.{_<_}
 use Rattle.settings.proofs.Laws.{ranges}
 use Rattle.pool.proofs.Sound.{told}
-use Rattle.batch.proofs.Whole.{ranks-small, dirty-written, room-after, wrote-length}
+use Rattle.batch.proofs.Whole.{ranks-small, dirty-written, first-room, rest-room, wrote-length}
 use borrow.Author.Needs.{needs}
 use Rattle.batch.proofs.write_dirty.Statement.{statement}
 use Rattle.batch.proofs.write_dirty.Tie as tie
@@ -14,18 +16,14 @@ now-of-requires c κs = ranges _ (told _ (c .before .pre .0 .sound) .settings) .
 rank-all-requires : tie.Need-rank-all-requires
 rank-all-requires c κs = (c .before .before .pre .0 .sound, c .now-of .ensures)
 
+victim-room : (c : tie.Start) → c .args .at < length (now (c .args .out))
+victim-room c = first-room (c .args .p) (c .args .v) (c .args .at) (length (now (c .args .out))) (c .pre .1) (c .pre .0 .room)
+
 slice-write-out : tie.Need-slice-write-out
-slice-write-out c =
-    let a = c .before .before .before .before .before .before .before in
-    let room = a .pre .0 .room in
-    let h = ranges _ (told _ (a .pre .0 .sound) .settings) .batch .0 in
-    omega arith
+slice-write-out c = victim-room (c .before .before .before .before .before .before .before)
 
 mul-out : tie.Need-mul-out
-mul-out c =
-    let a = c .before .before .before .before .before .before .before in
-    let room = a .pre .0 .room in
-    omega arith
+mul-out c = let h = victim-room (c .before .before .before .before .before .before .before) in omega arith
 
 sub-most : tie.Need-sub-most
 sub-most c =
@@ -36,8 +34,7 @@ sub-most c =
 add-write-others : tie.Need-add-write-others
 add-write-others c =
     let a = c .before .before .before .before .before .before .before .before .before .before .before in
-    let room = a .pre .0 .room in
-    let h = ranges _ (told _ (a .pre .0 .sound) .settings) .batch .0 in
+    let h = victim-room a in
     let f = a .fits in
     omega arith
 
@@ -48,7 +45,7 @@ write-others-requires c κs =
     let s = told _ (a .pre .0 .sound) in (
       ranges _ (s .settings) .frames .1,
       ranks-small _ s _ _ _ r,
-      room-after (now (a .args .out)) (a .args .at) (a .args .p .settings .batch) (frameAt (a .args .p .frames) (a .args .v) .page) (ranges _ (s .settings) .batch .0) (a .pre .0 .room),
+      rest-room _ s _ _ _ r (a .args .at) (now (a .args .out)) (frameAt (a .args .p .frames) (a .args .v) .page) (a .pre .1) (a .pre .0 .room),
     )
 
 add-t15 : tie.Need-add-t15

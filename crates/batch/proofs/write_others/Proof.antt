@@ -1,8 +1,9 @@
-use Prim.Native.Nat.{_-_, _≤_, _<_}
+use Prim.Native.Nat.{_+_, _-_, _≤_, _<_}
 use mathlib.Core.Path.{_≡_, refl, sym, _∙_}
 use native.Mathlib.Omega.{arith}
+use denote.Ref.{now}
 use lib.ListN.{length, length-set}
-use Rattle.batch.proofs.Batching.{Batching, starts, found-below, turn, full, ends}
+use Rattle.batch.proofs.Batching.{Batching, starts, found-below, found-room, turn, full, ends}
 use borrow.Author.Needs.{needs}
 use Rattle.batch.proofs.write_others.Statement.{statement}
 use Rattle.batch.proofs.write_others.Tie as tie
@@ -43,6 +44,26 @@ mul-g c = let h = i-below c in omega arith
 array-copy-out-g : tie.Need-array-copy-out-g Inv-loop μ-loop
 array-copy-out-g c = i-below c
 
+place-free : (c : tie.After-g Inv-loop μ-loop)
+    → let a = c .before .before .before .before .before .before .before .before in
+    a .args .at + c .before .before .before .before .before .before .loop .n < length (now (a .args .out))
+place-free c =
+    let a = c .before .before .before .before .before .before .before .before in
+    let r = c .before .before .before .before .before .before .loop in
+    let h = found-room (a .args .frames) (a .args .marks) (a .args .ranks) (a .args .f) (a .args .at) (now (a .args .out)) _ _ _ (r .n) (r .inv .3) _
+    (sym (c .before .before .before .before .next .ensures) ∙ c .before .before .found .given .1) (a .args .most) (c .before .before .before .before .before .loop-test .taken) in
+    let room = a .pre .2 in
+    omega arith
+
+add-out : tie.Need-add-out Inv-loop μ-loop
+add-out c = let h = place-free c in let f = c .before .before .before .before .before .before .before .before .fits in omega arith
+
+mul-out : tie.Need-mul-out Inv-loop μ-loop
+mul-out c = let h = place-free c in omega arith
+
+slice-write-out : tie.Need-slice-write-out Inv-loop μ-loop
+slice-write-out c = let h = place-free c in let l = c .before .before .before .before .before .before .loop .inv .1 in omega arith
+
 mul-gs : tie.Need-mul-gs Inv-loop μ-loop
 mul-gs c = let h = i-below (c .before .before) in omega arith
 
@@ -80,9 +101,9 @@ write-others-spec =
     returns
     mul-g
     array-copy-out-g
-    (λ c. search needs)
-    (λ c. search needs)
-    (λ c. search needs)
+    add-out
+    mul-out
+    slice-write-out
     (λ c κs. search needs)
     mul-gs
     array-set-from-gs

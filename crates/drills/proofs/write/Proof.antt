@@ -6,6 +6,7 @@ use borrow.Author.Tests.{ltb-true, leb-true}
 use Rattle.settings.proofs.Laws.{ranges}
 use Rattle.pool.proofs.Sound.{told}
 use Rattle.pool.proofs.ByFrame.{passed-sound}
+use Rattle.batch.proofs.Laws.{batch-length}
 use borrow.Author.Needs.{needs}
 use Rattle.drills.proofs.write.Statement.{statement}
 use Rattle.drills.proofs.write.Tie as tie
@@ -20,6 +21,7 @@ write-requires c κs =
     let near = leb-true (a .at) 16 (both .1) in
     let few = r .frames .1 in
     let size = r .batch .1 in
+    let long = batch-length (a .p) (told _ sound) (a .v) in
     record { sound = sound; frame = omega arith; room = omega arith }
 
 pub write-spec : {M : Type 1} → statement M

@@ -4,7 +4,7 @@ use mathlib.Core.Bool.{Bool, true, false, true≢false, and-eq-true-iff}
 use mathlib.Core.List.{List, map}
 use Prim.Native.Nat.{ℕ, zero, suc, _+_, _-_, _*_, _≤_, _<_}
 use native.Mathlib.Omega.{arith}
-use lib.ListN.{set}
+use lib.ListN.{length, set, length-set}
 use lib.Dec.{eqb}
 use borrow.Author.Tests.{eqb-true}
 use Rattle.search.specs.declared.Found.{Found}
@@ -19,17 +19,12 @@ use Rattle.pool.proofs.Sound.{Sound}
 use Rattle.pool.proofs.Quiet.{Quiet, sound-quiet}
 use Rattle.victim.specs.declared.Choice.{Choice}
 use Rattle.victim.specs.Choice.{unpinned, unmoved, leftBy}
-use Rattle.victim.specs.Clock.{rests, passedFrame, passed, nextHand, sweepFrom, sweepOf, restedAt, sweptChoice, anyUnpinned, someUnpinned, clockChoice}
+use Rattle.victim.specs.Clock.{rests, passedFrame, passed, nextHand, sweepFrom, visits, sweepOf, restedAt, sweptChoice, anyUnpinned, someUnpinned, clockChoice}
 use Rattle.victim.proofs.Owed.{AllPinned, repaged, repagedPool, repagedChoice, frame-repaged, map-set, Lowered, lowered-same, lowered-more, quiet-of, Owes}
 use Rattle.victim.proofs.clock.Falling.{next-below, passed-at, passed-unpinned, left, left-falls}
 use Rattle.victim.proofs.clock.Sweeping.{home, home-free, left-few}
 
 -- The sweep comes to rest.
-
--- the frames visited where n may be, the one that the hand rests on among them
-unfoldable pub visits : ℕ → ℕ → ℕ → List Frame → ℕ
-visits zero f h fs = 0
-visits (suc n) f h fs = let r = visits n f (nextHand f h) (passed fs h) in suc (pick (rests (frameAt fs h)) 0 r)
 
 pub record Rested (f : ℕ) (r : ℕ × List Frame) : Type 0 where
   pub on : r .0 < f
@@ -38,6 +33,19 @@ pub record Rested (f : ℕ) (r : ℕ × List Frame) : Type 0 where
 pick-same : {A : Type 0} (t : Bool) (a b c : A) → (t ≡ false → b ≡ c) → pick t a b ≡ pick t a c
 pick-same true a b c f = refl
 pick-same false a b c f = f refl
+
+-- as many visits as are counted are as good as all that were allowed
+visit-sweep : (n f h : ℕ) (fs : List Frame) (t : Bool) → rests (frameAt fs h) ≡ t
+    → sweepFrom (visits n f (nextHand f h) (passed fs h)) f (nextHand f h) (passed fs h) ≡ sweepFrom n f (nextHand f h) (passed fs h)
+    → sweepFrom (suc (pick t 0 (visits n f (nextHand f h) (passed fs h)))) f h fs ≡ pick t (h, fs) (sweepFrom n f (nextHand f h) (passed fs h))
+unfolding sweepFrom
+visit-sweep n f h fs true e k = rw e
+visit-sweep n f h fs false e k = rw e k
+
+pub visits-sweep : (n f h : ℕ) (fs : List Frame) → sweepFrom (visits n f h fs) f h fs ≡ sweepFrom n f h fs
+unfolding sweepFrom visits
+visits-sweep zero f h fs = refl
+visits-sweep (suc n) f h fs = visit-sweep n f h fs (rests (frameAt fs h)) refl (visits-sweep n f (nextHand f h) (passed fs h))
 
 module _ (f u : ℕ) (uf : u < f) where
   -- with more visits allowed than are left the hand rests
@@ -91,7 +99,7 @@ swept-rests p sound some = let u = home-free p some in sweep-rests p (home p) so
 -- It only lowers counts.
 
 passed-lowers : (fs : List Frame) (h i : ℕ) → Lowered (frameAt fs i) (frameAt (passed fs h) i)
-passed-lowers fs h i = passed-at fs h i (Lowered (frameAt fs i)) (lowered-same (frameAt fs i)) (record { kept = refl; low = low })
+passed-lowers fs h i = passed-at fs h i (Lowered (frameAt fs i)) (lowered-same (frameAt fs i)) (record { kept = refl; low = low; pinned = λ e. rw e })
   where
     low : passedFrame (frameAt fs i) .count ≤ frameAt fs i .count
     low = pick-ind (λ (x : ℕ). x ≤ frameAt fs i .count) (unpinned fs i) (frameAt fs i .count - 1) (frameAt fs i .count) (λ e. omega arith) (λ e. omega arith)
@@ -180,13 +188,22 @@ clock-none p = (
   λ all. clock-cases (λ c. c .found ≡ Nothing) p (λ some. absurd (true≢false (sym some ∙ free-none p all))) (λ none. refl),
 )
 
--- it only lowers counts
-clock-lowers : (p : Pool) (i : ℕ) → Lowered (frameAt (p .frames) i) (frameAt (clockChoice p .frames) i)
+-- it keeps of each frame all but the count, which it does not raise, and all of a pinned one
+pub clock-lowers : (p : Pool) (i : ℕ) → Lowered (frameAt (p .frames) i) (frameAt (clockChoice p .frames) i)
 clock-lowers p i = clock-cases (λ c. Lowered (frameAt (p .frames) i) (frameAt (c .frames) i)) p (λ some. swept-lowers p i) (λ none. lowered-same (frameAt (p .frames) i))
 
--- it keeps of each frame all but the count
-pub clock-keeps : (p : Pool) (i : ℕ) → frameAt (clockChoice p .frames) i ≡ withCount (frameAt (p .frames) i) (frameAt (clockChoice p .frames) i .count)
-clock-keeps p i = clock-lowers p i .kept
+-- no frame more or less
+passed-long : (n f h : ℕ) (fs : List Frame) → length (sweepFrom n f h fs .1) ≡ length fs
+unfolding sweepFrom
+passed-long zero f h fs = refl
+passed-long (suc n) f h fs =
+    pick-ind (λ (r : ℕ × List Frame). length (r .1) ≡ length fs) (rests (frameAt fs h)) (h, fs) (sweepFrom n f (nextHand f h) (passed fs h))
+    (λ e. refl)
+    (λ e. passed-long n f (nextHand f h) (passed fs h) ∙ length-set fs h (passedFrame (frameAt fs h)))
+
+pub clock-long : (p : Pool) → length (clockChoice p .frames) ≡ length (p .frames)
+unfolding sweptChoice sweepOf
+clock-long p = clock-cases (λ c. length (c .frames) ≡ length (p .frames)) p (λ some. passed-long (p .settings .frames * (p .settings .cap + 1)) (p .settings .frames) (p .hand) (p .frames)) (λ none. refl)
 
 -- it changes nothing but hand, sampler number and clock counts
 pub clock-quiet : (p : Pool) → Sound p → Quiet p (leftBy p (clockChoice p))
@@ -217,7 +234,7 @@ unfolding sweptChoice
 clock-still p = clock-cases (λ c. c .found ≡ Nothing → leftBy p c ≡ p) p (λ some e. absurd (apart (sweepOf p .0) (sym e))) (λ none e. refl)
 
 pub clock-owes : Owes clockChoice
-clock-owes = record { unpinned = clock-unpinned; none = clock-none; still = clock-still; keeps = clock-keeps; quiet = clock-quiet; sound = clock-sound; pages = clock-pages }
+clock-owes = record { unpinned = clock-unpinned; none = clock-none; still = clock-still; lowers = clock-lowers; long = clock-long; quiet = clock-quiet; sound = clock-sound; pages = clock-pages }
 
 -- the victim's count after the sweep is 0, and the hand is then one past it
 pub clock-rest : (p : Pool) (v : ℕ) → Sound p → clockChoice p .found ≡ At v → (frameAt (clockChoice p .frames) v .count ≡ 0) × (clockChoice p .hand ≡ nextHand (p .settings .frames) v)

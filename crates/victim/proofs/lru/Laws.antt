@@ -3,6 +3,7 @@ use mathlib.Core.Path.{_≡_, refl, ap}
 use mathlib.Core.Bool.{true}
 use mathlib.Core.List.{List, map}
 use Prim.Native.Nat.{ℕ, _≤_, _<_}
+use lib.ListN.{length}
 use lib.Dec.{eqb}
 use borrow.Author.Tests.{ltb-false}
 use Rattle.search.specs.declared.Found.the-variants.{At, Nothing}
@@ -14,7 +15,7 @@ use Rattle.pool.proofs.Sound.{Sound}
 use Rattle.pool.proofs.Quiet.{Quiet, sound-quiet}
 use Rattle.victim.specs.Choice.{unpinned, unmoved, leftBy}
 use Rattle.victim.specs.Lru.{older, lruVictim, lruChoice}
-use Rattle.victim.proofs.Owed.{AllPinned, repaged, repagedPool, repagedChoice, frame-repaged, lowered-same, quiet-of, Owes}
+use Rattle.victim.proofs.Owed.{AllPinned, repaged, repagedPool, repagedChoice, frame-repaged, Lowered, lowered-same, quiet-of, Owes}
 
 -- its victim lies below f and is unpinned
 pub lru-unpinned : (p : Pool) (v : ℕ) → Sound p → lruChoice p .found ≡ At v → (v < p .settings .frames) × (unpinned (p .frames) v ≡ true)
@@ -27,10 +28,14 @@ unfolding lruChoice lruVictim
 lru-none p =
     (λ h i l. least-none (unpinned (p .frames)) (older (p .frames)) (p .settings .frames) i h l, least-none-of (unpinned (p .frames)) (older (p .frames)) (p .settings .frames))
 
--- it keeps of each frame all but the count
-pub lru-keeps : (p : Pool) (i : ℕ) → frameAt (lruChoice p .frames) i ≡ withCount (frameAt (p .frames) i) (frameAt (lruChoice p .frames) i .count)
+-- it keeps of each frame all but the count, which it does not raise, and all of a pinned one
+pub lru-lowers : (p : Pool) (i : ℕ) → Lowered (frameAt (p .frames) i) (frameAt (lruChoice p .frames) i)
 unfolding lruChoice
-lru-keeps p i = refl
+lru-lowers p i = lowered-same (frameAt (p .frames) i)
+
+pub lru-long : (p : Pool) → length (lruChoice p .frames) ≡ length (p .frames)
+unfolding lruChoice
+lru-long p = refl
 
 -- it changes nothing but hand, sampler number and clock counts
 pub lru-quiet : (p : Pool) → Sound p → Quiet p (leftBy p (lruChoice p))
@@ -59,7 +64,7 @@ unfolding lruChoice
 lru-still p h = refl
 
 pub lru-owes : Owes lruChoice
-lru-owes = record { unpinned = lru-unpinned; none = lru-none; still = lru-still; keeps = lru-keeps; quiet = lru-quiet; sound = lru-sound; pages = lru-pages }
+lru-owes = record { unpinned = lru-unpinned; none = lru-none; still = lru-still; lowers = lru-lowers; long = lru-long; quiet = lru-quiet; sound = lru-sound; pages = lru-pages }
 
 -- no unpinned frame below f has a smaller last step than the victim
 pub lru-least : (p : Pool) (v j : ℕ) → lruChoice p .found ≡ At v → j < p .settings .frames → unpinned (p .frames) j ≡ true → frameAt (p .frames) v .last ≤ frameAt (p .frames) j .last
