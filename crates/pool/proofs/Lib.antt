@@ -4,3 +4,4 @@ pub mod ByFrame
 pub mod Quiet
 pub mod Sizes
 pub mod Opening
+pub mod Epochs

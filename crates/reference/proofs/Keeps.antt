@@ -1,11 +1,10 @@
 -- Each reference, pin and unpin keeps a sound pool sound; what is found is the only frame with that page; other frames stay.
 use mathlib.Core.Path.{_≡_, refl, ap, sym, subst, _∙_}
 use mathlib.Core.Bool.{Bool, true, true≢false, false≢true, and-eq-true-iff}
-use Prim.Native.Nat.{ℕ, _+_, _-_, _*_, _≤_, _<_}
+use Prim.Native.Nat.{ℕ, _+_, _-_, _*_, _<_}
 use native.Mathlib.Omega.{arith}
 use native.Mathlib.Decide.{decLt}
-use native.Mathlib.Nat.{le-trans, le-of-lt, le-div-iff-mul-le, div-mul-le-self}
-use lib.ListN.{length, length-set}
+use lib.ListN.{length-set}
 use lib.Seq.{getD-set-same, getD-set-other}
 use lib.Dec.{eqb}
 use borrow.Author.Tests.{eq-eqb, eqb-true}
@@ -13,13 +12,13 @@ use Rattle.search.specs.declared.Found.the-variants.{At, Nothing}
 use Rattle.search.specs.Search.{never}
 use Rattle.search.proofs.Least.{least-sound, least-none, first-lowest}
 use Rattle.search.proofs.Every.{undenied}
-use Rattle.settings.specs.declared.Settings.{Settings}
 use Rattle.settings.proofs.Laws.{ranges}
 use Rattle.pool.specs.declared.Frame.{Frame}
 use Rattle.pool.specs.declared.Pool.{Pool}
-use Rattle.pool.specs.Pool.{referenceLimit, emptyFrame, frameAt, epochAt, nowOf, lastEpochOf, withCount}
+use Rattle.pool.specs.Pool.{referenceLimit, emptyFrame, frameAt, nowOf, lastEpochOf, withCount}
 use Rattle.pool.proofs.Sound.{Sound}
-use Rattle.pool.proofs.Sizes.{Sized}
+use Rattle.pool.proofs.Epochs.{last-before-now}
+use Rattle.pool.proofs.Sizes.{Sized, access-room, write-room}
 use Rattle.pool.proofs.Quiet.{Alike, Quiet, sound-quiet}
 use Rattle.reference.specs.Search.{has, findPage, unused, lowestUnused}
 use Rattle.reference.specs.Reference.{withFrame, withPins, raised, newFrame, emptied, hitAt, fetchedAt, pinnedAt, unpinnedAt}
@@ -27,21 +26,10 @@ use Rattle.reference.proofs.Logs.{clear-length}
 use Rattle.reference.proofs.Logged.{logged-up, logged-same, clear-logged, clear-other}
 use Rattle.reference.proofs.Ready.{Own, own, Ready, set-at, referred-sound, referred-sized}
 
--- epochs do not fall
-pub epoch-up : (s : Settings) (a b : ℕ) → 0 < s .epoch → a ≤ b → epochAt s a ≤ epochAt s b
-epoch-up s a b h l = le-div-iff-mul-le h .1 (le-trans (div-mul-le-self a (s .epoch)) l)
-
--- in a sound pool the frames in use have different pages and last steps
+-- finding a page in a sound pool
 module _ (p : Pool) (s : Sound p) where
   abbrev f : ℕ → Frame
   f j = frameAt (p .frames) j
-
-  pub epoch-positive : 0 < p .settings .epoch
-  epoch-positive = ranges (p .settings) (s .settings) .epoch .0
-
-  pub last-before-now : (i : ℕ) → i < 128 → f i .used ≡ true → lastEpochOf p i ≤ nowOf p
-  unfolding lastEpochOf nowOf
-  last-before-now i l u = epoch-up (p .settings) (f i .last) (p .k) epoch-positive (le-of-lt (s .frame i l .below u))
 
   -- what is found is the only frame with that page
   pub find-only : (page i j : ℕ) → findPage (p .frames) page ≡ At i → j < 128 → has (p .frames) page j ≡ true → j ≡ i
@@ -80,8 +68,8 @@ module _ (p : Pool) (s : Sound p) where
         used = u;
         within = g .within u;
         capped = g .capped;
-        access = logged-up (p .access) (i * 8) 8 (f i .accesses) (lastEpochOf p i) (nowOf p) (last-before-now i l u) (g .access);
-        write = logged-up (p .write) (i * 4) 4 (f i .writes) (lastEpochOf p i) (nowOf p) (last-before-now i l u) (g .write);
+        access = logged-up (p .access) (i * 8) 8 (f i .accesses) (lastEpochOf p i) (nowOf p) (last-before-now p s i l u) (g .access);
+        write = logged-up (p .write) (i * 4) 4 (f i .writes) (lastEpochOf p i) (nowOf p) (last-before-now p s i l u) (g .write);
         written = g .written;
         others = λ j h _. own p j (s .frame j h);
         lowest = λ j m h k v. s .frame j k .lowest v m h;
@@ -170,12 +158,6 @@ module _ (p : Pool) (s : Sound p) (z : Sized p) (i page : ℕ) (l : i < p .setti
   unfolding lastEpochOf
   old-epoch j ne = rw (old j ne)
 
-  access-room : i * 8 + 8 ≤ length (p .access)
-  access-room = let h = few in let k = z .access in omega arith
-
-  write-room : i * 4 + 4 ≤ length (p .write)
-  write-room = let h = few in let k = z .write in omega arith
-
   old-own : (j : ℕ) → j < 128 → (j ≡ i → ⊥) → Own e j
   old-own j h ne =
       let g = s .frame j h in record {
@@ -184,9 +166,9 @@ module _ (p : Pool) (s : Sound p) (z : Sized p) (i page : ℕ) (l : i < p .setti
         capped = rw (old j ne) (g .capped);
         below = λ u. rw (old j ne) (g .below (rw (old j ne) at u));
         access = rw (old j ne, ← old-epoch j ne)
-            (logged-same (p .access) (e .access) (j * 8) 8 (frameAt (p .frames) j .accesses) (lastEpochOf p j) (clear-other (p .access) 8 i j ne access-room) (g .access));
+            (logged-same (p .access) (e .access) (j * 8) 8 (frameAt (p .frames) j .accesses) (lastEpochOf p j) (clear-other (p .access) 8 i j ne (access-room p i z few)) (g .access));
         write = rw (old j ne, ← old-epoch j ne)
-            (logged-same (p .write) (e .write) (j * 4) 4 (frameAt (p .frames) j .writes) (lastEpochOf p j) (clear-other (p .write) 4 i j ne write-room) (g .write));
+            (logged-same (p .write) (e .write) (j * 4) 4 (frameAt (p .frames) j .writes) (lastEpochOf p j) (clear-other (p .write) 4 i j ne (write-room p i z few)) (g .write));
         accessed = λ u. rw (old j ne) (g .accessed (rw (old j ne) at u));
         written = λ d. rw (old j ne) (g .written (rw (old j ne) at d));
       }
@@ -208,8 +190,8 @@ module _ (p : Pool) (s : Sound p) (z : Sized p) (i page : ℕ) (l : i < p .setti
   fetch-ready room = record {
     sized = record {
       frames = length-set (p .frames) i (newFrame page) ∙ z .frames;
-      access = clear-length (p .access) (i * 8) 8 access-room ∙ z .access;
-      write = clear-length (p .write) (i * 4) 4 write-room ∙ z .write;
+      access = clear-length (p .access) (i * 8) 8 (access-room p i z few) ∙ z .access;
+      write = clear-length (p .write) (i * 4) 4 (write-room p i z few) ∙ z .write;
     };
     settings = s .settings;
     hand = s .hand;
@@ -218,8 +200,8 @@ module _ (p : Pool) (s : Sound p) (z : Sized p) (i page : ℕ) (l : i < p .setti
     used = ap (λ (g : Frame). g .used) new;
     within = l;
     capped = rw new (ranges (p .settings) (s .settings) .cap .0);
-    access = rw new (clear-logged (p .access) (i * 8) 8 (nowOf e) access-room);
-    write = rw new (clear-logged (p .write) (i * 4) 4 (nowOf e) write-room);
+    access = rw new (clear-logged (p .access) (i * 8) 8 (nowOf e) (access-room p i z few));
+    write = rw new (clear-logged (p .write) (i * 4) 4 (nowOf e) (write-room p i z few));
     written = λ d. absurd (true≢false (sym d ∙ ap (λ (g : Frame). g .dirty) new));
     others = old-own;
     lowest = emptied-lowest;

@@ -2,13 +2,12 @@
 use mathlib.Core.Path.{_≡_, refl, _∙_}
 use mathlib.Core.Bool.{Bool, true}
 use Prim.Native.Nat.{ℕ, _+_, _-_, _*_, _≤_, _<_}
-use native.Mathlib.Omega.{arith}
 use lib.ListN.{length, getD}
 use lib.Seq.{getD-set-other}
 use Rattle.pool.specs.declared.Frame.{Frame}
 use Rattle.pool.specs.declared.Pool.{Pool}
 use Rattle.pool.specs.Pool.{emptyFrame, frameAt, nowOf, withCount}
-use Rattle.pool.proofs.Sizes.{Sized}
+use Rattle.pool.proofs.Sizes.{Sized, access-room, write-room}
 use Rattle.reference.specs.Reference.{withFrame, withPins, raised, newFrame, referredFrame, referred, emptied, hitAt, fetchedAt, pinnedAt, unpinnedAt}
 use Rattle.reference.proofs.Logs.{clear-length}
 use Rattle.reference.proofs.Logged.{with-other, clear-other}
@@ -47,29 +46,23 @@ module _ (p : Pool) (i j : ℕ) (ne : j ≡ i → ⊥) where
   }
 
 module _ (p : Pool) (z : Sized p) (i j : ℕ) (l : i < 128) (ne : j ≡ i → ⊥) where
-  access-room : i * 8 + 8 ≤ length (p .access)
-  access-room = let k = z .access in omega arith
-
-  write-room : i * 4 + 4 ≤ length (p .write)
-  write-room = let k = z .write in omega arith
-
   pub hit-other : (write : Bool) → Stays p (hitAt p i write) j
   unfolding hitAt
   hit-other write =
       let g = withCount (frameAt (p .frames) i) (raised (p .settings .cap) (frameAt (p .frames) i .count)) in
-      then-stays p (withFrame p i g) (referred (withFrame p i g) i write) j (frame-other p i j ne g) (referred-other (withFrame p i g) i j ne write access-room write-room)
+      then-stays p (withFrame p i g) (referred (withFrame p i g) i write) j (frame-other p i j ne g) (referred-other (withFrame p i g) i j ne write (access-room p i z l) (write-room p i z l))
 
   emptied-other : (page : ℕ) → Stays p (emptied p i page) j
   emptied-other page = record {
     frame = getD-set-other (p .frames) i j (newFrame page) emptyFrame ne;
-    access = clear-other (p .access) 8 i j ne access-room;
-    write = clear-other (p .write) 4 i j ne write-room;
+    access = clear-other (p .access) 8 i j ne (access-room p i z l);
+    write = clear-other (p .write) 4 i j ne (write-room p i z l);
   }
 
   pub fetch-other : (page : ℕ) (write : Bool) → Stays p (fetchedAt p i page write) j
   unfolding fetchedAt
   fetch-other page write =
-      let a = clear-length (p .access) (i * 8) 8 access-room in
-      let w = clear-length (p .write) (i * 4) 4 write-room in
+      let a = clear-length (p .access) (i * 8) 8 (access-room p i z l) in
+      let w = clear-length (p .write) (i * 4) 4 (write-room p i z l) in
       then-stays p (emptied p i page) (referred (emptied p i page) i write) j (emptied-other page)
-      (referred-other (emptied p i page) i j ne write (rw a access-room) (rw w write-room))
+      (referred-other (emptied p i page) i j ne write (rw a (access-room p i z l)) (rw w (write-room p i z l)))

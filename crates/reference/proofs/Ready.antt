@@ -2,7 +2,7 @@
 use mathlib.Core.Path.{_≡_, refl, ap, sym, subst, _∙_}
 use mathlib.Core.Bool.{Bool, true, false, _||_, true≢false}
 use mathlib.Core.List.{List}
-use Prim.Native.Nat.{ℕ, _+_, _*_, _≤_, _<_}
+use Prim.Native.Nat.{ℕ, _*_, _≤_, _<_}
 use native.Mathlib.Omega.{arith}
 use native.Mathlib.Decide.{ℕ-discrete}
 use lib.ListN.{length, set, length-set}
@@ -12,7 +12,7 @@ use Rattle.pool.specs.declared.Frame.{Frame}
 use Rattle.pool.specs.declared.Pool.{Pool}
 use Rattle.pool.specs.Pool.{referenceLimit, emptyFrame, frameAt, epochAt, nowOf, lastEpochOf}
 use Rattle.pool.proofs.Sound.{Logged, SoundFrame, Sound}
-use Rattle.pool.proofs.Sizes.{Sized}
+use Rattle.pool.proofs.Sizes.{Sized, access-room, write-room}
 use Rattle.reference.specs.Logs.{lengthWith}
 use Rattle.reference.specs.Reference.{referredFrame, referred}
 use Rattle.reference.proofs.Logged.{logged-same, with-logged, with-some, with-kept, with-other, with-length}
@@ -106,32 +106,26 @@ module _ (p : Pool) (i : ℕ) (write : Bool) (s : Ready p i) where
   unfolding lastEpochOf
   there-epoch j ne = rw (there j ne, settings-same)
 
-  access-room : i * 8 + 8 ≤ length (p .access)
-  access-room = let z = s .sized .access in let l = s .frame in omega arith
-
-  write-room : i * 4 + 4 ≤ length (p .write)
-  write-room = let z = s .sized .write in let l = s .frame in omega arith
-
   -- the logs of frame i, and of another
   access-here : Logged (r .access) (i * 8) 8 (frameAt (r .frames) i .accesses) (lastEpochOf r i)
   unfolding referred
-  access-here = rw (here, ← here-epoch) (with-logged (p .access) (i * 8) 8 (f i .accesses) (nowOf p) true access-room (omega arith) (s .access))
+  access-here = rw (here, ← here-epoch) (with-logged (p .access) (i * 8) 8 (f i .accesses) (nowOf p) true (access-room p i (s .sized) (s .frame)) (omega arith) (s .access))
 
   write-here : Logged (r .write) (i * 4) 4 (frameAt (r .frames) i .writes) (lastEpochOf r i)
   unfolding referred
-  write-here = rw (here, ← here-epoch) (with-logged (p .write) (i * 4) 4 (f i .writes) (nowOf p) write write-room (omega arith) (s .write))
+  write-here = rw (here, ← here-epoch) (with-logged (p .write) (i * 4) 4 (f i .writes) (nowOf p) write (write-room p i (s .sized) (s .frame)) (omega arith) (s .write))
 
   access-there : (j : ℕ) → j < 128 → (j ≡ i → ⊥) → Logged (r .access) (j * 8) 8 (frameAt (r .frames) j .accesses) (lastEpochOf r j)
   unfolding referred
   access-there j l ne =
       rw (there j ne, ← there-epoch j ne)
-      (logged-same (p .access) (r .access) (j * 8) 8 (f j .accesses) (lastEpochOf p j) (with-other (p .access) 8 i j ne access-room (f i .accesses) (nowOf p) true) (s .others j l ne .access))
+      (logged-same (p .access) (r .access) (j * 8) 8 (f j .accesses) (lastEpochOf p j) (with-other (p .access) 8 i j ne (access-room p i (s .sized) (s .frame)) (f i .accesses) (nowOf p) true) (s .others j l ne .access))
 
   write-there : (j : ℕ) → j < 128 → (j ≡ i → ⊥) → Logged (r .write) (j * 4) 4 (frameAt (r .frames) j .writes) (lastEpochOf r j)
   unfolding referred
   write-there j l ne =
       rw (there j ne, ← there-epoch j ne)
-      (logged-same (p .write) (r .write) (j * 4) 4 (f j .writes) (lastEpochOf p j) (with-other (p .write) 4 i j ne write-room (f i .writes) (nowOf p) write) (s .others j l ne .write))
+      (logged-same (p .write) (r .write) (j * 4) 4 (f j .writes) (lastEpochOf p j) (with-other (p .write) 4 i j ne (write-room p i (s .sized) (s .frame)) (f i .writes) (nowOf p) write) (s .others j l ne .write))
 
   written-here : (w : Bool) → (f i .dirty || w) ≡ true → 0 < lengthWith (p .write) (i * 4) 4 (f i .writes) (nowOf p) w
   written-here true d = with-some (p .write) (i * 4) 4 (f i .writes) (nowOf p) (omega arith)
@@ -201,6 +195,6 @@ module _ (p : Pool) (i : ℕ) (write : Bool) (s : Ready p i) where
   unfolding referred
   referred-sized = record {
     frames = length-set (p .frames) i (referredFrame p i write) ∙ s .sized .frames;
-    access = with-length (p .access) (i * 8) 8 (f i .accesses) (nowOf p) true access-room ∙ s .sized .access;
-    write = with-length (p .write) (i * 4) 4 (f i .writes) (nowOf p) write write-room ∙ s .sized .write;
+    access = with-length (p .access) (i * 8) 8 (f i .accesses) (nowOf p) true (access-room p i (s .sized) (s .frame)) ∙ s .sized .access;
+    write = with-length (p .write) (i * 4) 4 (f i .writes) (nowOf p) write (write-room p i (s .sized) (s .frame)) ∙ s .sized .write;
   }

@@ -76,12 +76,16 @@ module _ (P : Found → Type 0) where
       go true e = better-cases less n prev (first e) (λ b. beat b e) (λ b. keep b e)
       go false e = skip e
 
+-- no answer is both a number and none, and no test both passes and fails
+pub one-or-none : (i : ℕ) → At i ≡ Nothing → ⊥
+one-or-none i e = let z : _≡_ {A = ℕ} 0 1 = cc in omega arith
+
+pub not-both : (b : Bool) → b ≡ true → b ≡ false → ⊥
+not-both b p q = true≢false (sym p ∙ q)
+
 -- what is found lies below the bound and passes the test
 pub least-sound : (ok : ℕ → Bool) (less : ℕ → ℕ → Bool) (n i : ℕ) → leastBelow ok less n ≡ At i → (i < n) × (ok i ≡ true)
-least-sound ok less zero i h = absurd (never-both (sym (least-zero ok less) ∙ h))
-  where
-    never-both : Nothing ≡ At i → ⊥
-    never-both e = let z : _≡_ {A = ℕ} 0 1 = cc in omega arith
+least-sound ok less zero i h = absurd (one-or-none i (sym h ∙ least-zero ok less))
 least-sound ok less (suc n) i h =
     offer-cases (λ r. r ≡ At i → (i < suc n) × (ok i ≡ true)) ok less n (leastBelow ok less n)
     (λ _ e. let q = least-sound ok less n i e in (omega arith, q .1))
@@ -144,9 +148,6 @@ by-key key = record {
   weak = λ a b c h k. let l = ltb-true (key a) (key c) h in let m = ltb-false (key b) (key c) k in lt-ltb (key a) (key b) (omega arith);
 }
 
-both : (b : Bool) → b ≡ true → b ≡ false → ⊥
-both b p q = true≢false (sym p ∙ q)
-
 module _ (ok : ℕ → Bool) (less : ℕ → ℕ → Bool) (ord : Order less) where
   irrefl : (a : ℕ) → less a a ≡ false
   irrefl a = go (less a a) refl
@@ -160,9 +161,9 @@ module _ (ok : ℕ → Bool) (less : ℕ → ℕ → Bool) (ord : Order less) wh
   least-least zero i j h l t = absurd (not-suc-le-zero l)
   least-least (suc n) i j h l t =
       offer-cases (λ r. r ≡ At i → less j i ≡ false) ok less n (leastBelow ok less n)
-      (λ u e. last-or-below j n l (λ q. absurd (both (ok n) (rw q at t) u)) (λ q. least-least n i j e q t))
+      (λ u e. last-or-below j n l (λ q. absurd (not-both (ok n) (rw q at t) u)) (λ q. least-least n i j e q t))
       (λ u p e. let z : n ≡ i = cc in
-      last-or-below j n l (λ q. rw (q, z) (irrefl i)) (λ q. absurd (both (ok j) t (least-none ok less n j p q))))
+      last-or-below j n l (λ q. rw (q, z) (irrefl i)) (λ q. absurd (not-both (ok j) t (least-none ok less n j p q))))
       (λ b u p v e. let z : n ≡ i = cc in
       last-or-below j n l (λ q. rw (q, z) (irrefl i)) (λ q. subst (λ (x : ℕ). less j x ≡ false) z (beaten n b j v (least-least n b j p q t))))
       (λ b u p v e. let z : b ≡ i = cc in
@@ -178,7 +179,7 @@ module _ (ok : ℕ → Bool) (less : ℕ → ℕ → Bool) (ord : Order less) wh
   least-lowest (suc n) i j h l t =
       offer-cases (λ r. r ≡ At i → less i j ≡ true) ok less n (leastBelow ok less n)
       (λ u e. least-lowest n i j e l t)
-      (λ u p e. let z : n ≡ i = cc in absurd (both (ok j) t (least-none ok less n j p (omega arith))))
+      (λ u p e. let z : n ≡ i = cc in absurd (not-both (ok j) t (least-none ok less n j p (omega arith))))
       (λ b u p v e. let z : n ≡ i = cc in subst (λ (x : ℕ). less x j ≡ true) z (ord .weak n j b v (least-least n b j p (omega arith) t)))
       (λ b u p v e. let z : b ≡ i = cc in least-lowest n i j (p ∙ ap At z) l t)
       (sym (least-suc ok less n) ∙ h)

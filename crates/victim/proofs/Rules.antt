@@ -6,7 +6,7 @@ use native.Mathlib.Omega.{arith}
 use lib.ListN.{length}
 use Rattle.search.specs.declared.Found.the-variants.{At, Nothing}
 use Rattle.pool.specs.declared.Pool.{Pool}
-use Rattle.pool.specs.Pool.{frameAt, withCount}
+use Rattle.pool.specs.Pool.{frameAt}
 use Rattle.pool.proofs.Sound.{Sound}
 use Rattle.pool.proofs.Quiet.{Quiet}
 use Rattle.pool.proofs.Sizes.{Sized}

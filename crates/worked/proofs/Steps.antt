@@ -11,16 +11,14 @@ use Rattle.victim.specs.declared.Choice.{Choice}
 use Rattle.victim.specs.Choice.{leftBy}
 use Rattle.victim.specs.Rules.{choiceOf}
 use Rattle.batch.specs.Batch.{batchOf, cleaned, pagesOf}
+use Rattle.batch.proofs.Laws.{withFrames}
 
 -- a pool of f frames under a rule, with a batch size and a cap
 abbrev pub fresh : ℕ → ℕ → ℕ → ℕ → Pool
 fresh rule f batch cap = emptyPool (record { rule = rule; frames = f; batch = batch; cap = cap; sample = 1; weight = 0; epoch = 1; seed = 0 })
 
-abbrev pub afterBatch : Pool → ℕ → Pool
-afterBatch p v = record { settings = p .settings; k = p .k; hand = p .hand; sampler = p .sampler; frames = cleaned (p .frames) (batchOf p v); access = p .access; write = p .write }
-
 abbrev pub evicted : Pool → Choice → ℕ → Bool → Pool
-evicted p c page write = onFound (c .found) (λ v. fetchedAt (afterBatch (leftBy p c) v) v page write) p
+evicted p c page write = onFound (c .found) (λ v. fetchedAt (withFrames (leftBy p c) (cleaned (c .frames) (batchOf (leftBy p c) v))) v page write) p
 
 unfoldable pub referredTo : Pool → ℕ → Bool → Pool
 referredTo p page write =

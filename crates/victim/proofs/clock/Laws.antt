@@ -10,11 +10,11 @@ use borrow.Author.Tests.{eqb-true}
 use Rattle.search.specs.declared.Found.{Found}
 use Rattle.search.specs.declared.Found.the-variants.{At, Nothing}
 use Rattle.search.specs.Search.{pick, onFound, never}
-use Rattle.search.proofs.Least.{least-none, least-none-of, least-cong}
+use Rattle.search.proofs.Least.{one-or-none, least-none, least-none-of, least-cong}
 use Rattle.search.proofs.Every.{pick-ind}
 use Rattle.pool.specs.declared.Frame.{Frame}
 use Rattle.pool.specs.declared.Pool.{Pool}
-use Rattle.pool.specs.Pool.{frameAt, withCount}
+use Rattle.pool.specs.Pool.{frameAt}
 use Rattle.pool.proofs.Sound.{Sound}
 use Rattle.pool.proofs.Quiet.{Quiet, sound-quiet}
 use Rattle.victim.specs.declared.Choice.{Choice}
@@ -152,9 +152,6 @@ clock-cases : (P : Choice → Type 0) (p : Pool) → (someUnpinned p ≡ true �
 unfolding clockChoice
 clock-cases P p f g = pick-ind P (someUnpinned p) (sweptChoice p) (unmoved p Nothing) f g
 
-apart : (v : ℕ) → _≡_ {A = Found} Nothing (At v) → ⊥
-apart v e = let z : _≡_ {A = ℕ} 0 1 = cc in omega arith
-
 none-free : (p : Pool) → someUnpinned p ≡ false → AllPinned p
 unfolding anyUnpinned
 none-free p s i l = go (anyUnpinned (p .frames) (p .settings .frames)) refl s
@@ -178,13 +175,13 @@ clock-unpinned p v sound = clock-cases (λ c. c .found ≡ At v → (v < p .sett
     let free = and-eq-true-iff (unpinned (sweepOf p .1) (sweepOf p .0)) (eqb (frameAt (sweepOf p .1) (sweepOf p .0) .count) 0) .0 (r .rest) .0 in
     let pins = ap (λ (fr : Frame). eqb (fr .pins) 0) (swept-lowers p (sweepOf p .0) .kept) in
     subst (λ (x : ℕ). (x < p .settings .frames) × (unpinned (p .frames) x ≡ true)) z (r .on, sym pins ∙ free))
-    (λ none e. absurd (apart v e))
+    (λ none e. absurd (one-or-none v (sym e)))
 
 -- it finds none exactly where every frame below f is pinned
 pub clock-none : (p : Pool) → (clockChoice p .found ≡ Nothing → AllPinned p) × (AllPinned p → clockChoice p .found ≡ Nothing)
 unfolding sweptChoice
 clock-none p = (
-  clock-cases (λ c. c .found ≡ Nothing → AllPinned p) p (λ some e. absurd (apart (sweepOf p .0) (sym e))) (λ none e. none-free p none),
+  clock-cases (λ c. c .found ≡ Nothing → AllPinned p) p (λ some e. absurd (one-or-none (sweepOf p .0) e)) (λ none e. none-free p none),
   λ all. clock-cases (λ c. c .found ≡ Nothing) p (λ some. absurd (true≢false (sym some ∙ free-none p all))) (λ none. refl),
 )
 
@@ -231,7 +228,7 @@ clock-pages ρ p =
 -- where it finds none it leaves the pool as it was
 pub clock-still : (p : Pool) → clockChoice p .found ≡ Nothing → leftBy p (clockChoice p) ≡ p
 unfolding sweptChoice
-clock-still p = clock-cases (λ c. c .found ≡ Nothing → leftBy p c ≡ p) p (λ some e. absurd (apart (sweepOf p .0) (sym e))) (λ none e. refl)
+clock-still p = clock-cases (λ c. c .found ≡ Nothing → leftBy p c ≡ p) p (λ some e. absurd (one-or-none (sweepOf p .0) e)) (λ none e. refl)
 
 pub clock-owes : Owes clockChoice
 clock-owes = record { unpinned = clock-unpinned; none = clock-none; still = clock-still; lowers = clock-lowers; long = clock-long; quiet = clock-quiet; sound = clock-sound; pages = clock-pages }
@@ -244,4 +241,4 @@ clock-rest p v sound = clock-cases (λ c. c .found ≡ At v → (frameAt (c .fra
     let r = swept-rests p sound some in
     let low = and-eq-true-iff (unpinned (sweepOf p .1) (sweepOf p .0)) (eqb (frameAt (sweepOf p .1) (sweepOf p .0) .count) 0) .0 (r .rest) .1 in
     subst (λ (x : ℕ). (frameAt (sweepOf p .1) x .count ≡ 0) × (nextHand (p .settings .frames) (sweepOf p .0) ≡ nextHand (p .settings .frames) x)) z (eqb-true (frameAt (sweepOf p .1) (sweepOf p .0) .count) 0 low, refl))
-    (λ none e. absurd (apart v e))
+    (λ none e. absurd (one-or-none v (sym e)))

@@ -1,15 +1,14 @@
 -- What WATT owes.
-use mathlib.Core.Path.{_≡_, refl, ap, sym, _∙_}
-use mathlib.Core.Bool.{Bool, true, false, _&&_, _||_, not, true≢false, and-eq-true-iff, and-false}
+use mathlib.Core.Path.{_≡_, refl, ap, _∙_}
+use mathlib.Core.Bool.{Bool, true, false, _&&_, _||_, not, and-eq-true-iff, and-false}
 use mathlib.Core.Logic.{_⊎_, inl, inr}
 use Prim.Native.Nat.{ℕ, _<_}
-use native.Mathlib.Omega.{arith}
 use lib.Dec.{eqb, ltb}
 use borrow.Author.Tests.{ltb-true}
 use Rattle.search.specs.declared.Found.{Found}
 use Rattle.search.specs.declared.Found.the-variants.{At, Nothing}
 use Rattle.search.specs.Search.{onFound}
-use Rattle.search.proofs.Least.{least-sound, least-none, least-none-of, least-cong, least-least, least-lowest}
+use Rattle.search.proofs.Least.{Order, one-or-none, not-both, least-sound, least-none, least-none-of, least-cong, least-least, least-lowest}
 use Rattle.worth.specs.Value.{ahead}
 use Rattle.pool.specs.declared.Frame.{Frame}
 use Rattle.pool.specs.declared.Pool.{Pool}
@@ -18,15 +17,9 @@ use Rattle.pool.proofs.Sound.{Sound}
 use Rattle.pool.proofs.Quiet.{Quiet, sound-quiet}
 use Rattle.victim.specs.Choice.{unpinned, leftBy}
 use Rattle.victim.specs.Watt.{valueAt, lessValue, leastValue, drawnFrame, wattVictim, wattChoice}
-use Rattle.victim.proofs.watt.Values.{watt-order}
+use Rattle.worth.proofs.Order.{less-asym, less-weak}
+use Rattle.victim.proofs.watt.Values.{value-positive}
 use Rattle.victim.proofs.Owed.{AllPinned, repagedPool, repagedChoice, frame-repaged, lowered-same, quiet-of, Owes}
-
--- no test is both true and false, no answer both a frame and none
-both-ways : (b : Bool) → b ≡ true → b ≡ false → ⊥
-both-ways b p q = true≢false (sym p ∙ q)
-
-one-or-none : (v : ℕ) → At v ≡ Nothing → ⊥
-one-or-none v e = let z : _≡_ {A = ℕ} 0 1 = cc in omega arith
 
 module _ (p : Pool) where
   -- every drawn frame below f is pinned
@@ -73,7 +66,7 @@ module _ (p : Pool) where
         (λ v _ e. absurd (one-or-none v e))
         (λ _ e i l. none-by (λ _. true) i e l refl),
     λ pinned. victim-cases (λ r. r ≡ Nothing)
-        (λ v h. let s = found-by (drawnFrame p) v h in absurd (both-ways (unpinned (p .frames) v) (s .2) (pinned v (s .0))))
+        (λ v h. let s = found-by (drawnFrame p) v h in absurd (not-both (unpinned (p .frames) v) (s .2) (pinned v (s .0))))
         (λ _. least-none-of (eligible (λ _. true)) (lessValue p) (p .settings .frames) pinned),
   )
 
@@ -92,13 +85,20 @@ module _ (p : Pool) where
       go true e = rw (h, g (ltb-true j v e))
       go false e = rw h (and-false (not (lessValue p v j)))
 
+  -- by value is an order
+  pub watt-order : Order (lessValue p)
+  watt-order = record {
+    asym = λ a b h. less-asym (valueAt p a) (valueAt p b) h;
+    weak = λ a b c h k. less-weak (valueAt p a) (valueAt p b) (valueAt p c) (value-positive p b) h k;
+  }
+
   least-by : (counts : ℕ → Bool) (v j : ℕ) → leastValue p counts ≡ At v → j < p .settings .frames → counts j ≡ true → unpinned (p .frames) j ≡ true
       → ahead (valueAt p) j v ≡ false
   least-by counts v j h l c u =
       let t : eligible counts j ≡ true = rw (c, u) in
       ahead-not v j
-      (least-least (eligible counts) (lessValue p) (watt-order p) (p .settings .frames) v j h l t)
-      (λ m. least-lowest (eligible counts) (lessValue p) (watt-order p) (p .settings .frames) v j h m t)
+      (least-least (eligible counts) (lessValue p) watt-order (p .settings .frames) v j h l t)
+      (λ m. least-lowest (eligible counts) (lessValue p) watt-order (p .settings .frames) v j h m t)
 
   -- of the unpinned frames that count as drawn none has a lower value than the victim, nor the same value and a lower number
   pub watt-least : (v j : ℕ) → wattChoice p .found ≡ At v → j < p .settings .frames → unpinned (p .frames) j ≡ true
@@ -112,7 +112,7 @@ module _ (p : Pool) where
     where
       by-draw : leastValue p (drawnFrame p) ≡ At v → (drawnFrame p j ≡ true) ⊎ DrawnPinned → ahead (valueAt p) j v ≡ false
       by-draw k (inl d) = least-by (drawnFrame p) v j k l d u
-      by-draw k (inr g) = let s = found-by (drawnFrame p) v k in absurd (both-ways (unpinned (p .frames) v) (s .2) (g v (s .0) (s .1)))
+      by-draw k (inr g) = let s = found-by (drawnFrame p) v k in absurd (not-both (unpinned (p .frames) v) (s .2) (g v (s .0) (s .1)))
 
   -- it leaves the frames as they are
   pub watt-keeps : wattChoice p .frames ≡ p .frames

@@ -1,20 +1,19 @@
--- Values: each fits, and they are an order.
+-- Values: each fits.
 use mathlib.Core.Path.{_≡_}
 use mathlib.Core.List.{List}
 use Prim.Native.Nat.{ℕ, _*_, _≤_, _<_}
-use native.Mathlib.Nat.{div-le-self, le-trans}
 use native.Mathlib.Omega.{arith}
-use Rattle.search.proofs.Least.{Order}
 use Rattle.worth.specs.declared.Fraction.{Fraction}
 use Rattle.worth.specs.Value.{worthOf, valueOf}
 use Rattle.worth.specs.Sizes.{Small, WorthSmall}
 use Rattle.worth.proofs.Sizes.{worth-small, value-small}
-use Rattle.worth.proofs.Order.{less-asym, less-weak, worth-proper, value-proper}
+use Rattle.worth.proofs.Order.{worth-proper, value-proper}
 use Rattle.settings.proofs.Laws.{ranges}
 use Rattle.pool.specs.declared.Pool.{Pool}
 use Rattle.pool.specs.Pool.{referenceLimit, frameAt, nowOf}
 use Rattle.pool.proofs.Sound.{Sound}
-use Rattle.victim.specs.Watt.{valueAt, lessValue}
+use Rattle.pool.proofs.Epochs.{now-few}
+use Rattle.victim.specs.Watt.{valueAt}
 
 -- the bounds of what frame i's value is made from
 pub record Fitting (p : Pool) (i : ℕ) : Type 0 where
@@ -23,15 +22,11 @@ pub record Fitting (p : Pool) (i : ℕ) : Type 0 where
   pub young : nowOf p ≤ referenceLimit
   pub weight : p .settings .weight ≤ 16
 
-young : (p : Pool) → p .k ≤ referenceLimit → nowOf p ≤ referenceLimit
-unfolding nowOf
-young p h = le-trans (div-le-self (p .k) (p .settings .epoch)) h
-
 pub fitting : (p : Pool) (i : ℕ) → Sound p → i < 128 → Fitting p i
 fitting p i s l = record {
   accesses = s .frame i l .access .short;
   writes = s .frame i l .write .short;
-  young = young p (s .few);
+  young = now-few p s;
   weight = ranges (p .settings) (s .settings) .weight;
 }
 
@@ -57,16 +52,10 @@ value-fits p i s l =
     (worth-small (p .write) (i * 4) (frameAt (p .frames) i .writes) (nowOf p) (omega arith) (h .young))
     (h .weight)
 
--- by value is an order
+-- and has a denominator
 pub value-positive : (p : Pool) (i : ℕ) → 0 < valueAt p i .den
 unfolding valueAt
 value-positive p i =
     value-proper _ _ (p .settings .weight)
     (worth-proper (p .access) (i * 8) (frameAt (p .frames) i .accesses) (nowOf p))
     (worth-proper (p .write) (i * 4) (frameAt (p .frames) i .writes) (nowOf p))
-
-pub watt-order : (p : Pool) → Order (lessValue p)
-watt-order p = record {
-  asym = λ a b h. less-asym (valueAt p a) (valueAt p b) h;
-  weak = λ a b c h k. less-weak (valueAt p a) (valueAt p b) (valueAt p c) (value-positive p b) h k;
-}
