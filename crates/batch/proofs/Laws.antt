@@ -22,15 +22,11 @@ use Rattle.victim.specs.Watt.{valueAt}
 use Rattle.victim.proofs.Rules.{by-rule}
 use Rattle.victim.proofs.watt.Values.{value-positive}
 use Rattle.batch.specs.Taken.{othersTo}
-use Rattle.batch.specs.Batch.{distance, batchOrder, waits, batchOf, cleanFrame, cleaned}
+use Rattle.batch.specs.Batch.{distance, batchOrder, waits, batchOf, cleanFrame, cleaned, withFrames}
 use Rattle.batch.specs.Ranks.{rankOf}
 use Rattle.batch.proofs.Ranks.{rank-order}
 use Rattle.batch.proofs.Taken.{Chosen, chosen, Enough, enough}
 use Rattle.batch.proofs.Cleaned.{cleaned-at, cleaned-length}
-
--- the pool with other frames
-abbrev pub withFrames : Pool → List Frame → Pool
-withFrames p fs = record { settings = p .settings; k = p .k; hand = p .hand; sampler = p .sampler; frames = fs; access = p .access; write = p .write }
 
 rank-positive : (p : Pool) (i : ℕ) → Proper (rankOf p i)
 unfolding rankOf

@@ -1,30 +1,15 @@
 // What a trace on standard input is: its order, settings and counts, a line each, or `trace refused N`.
 use lines::say;
-use lines::say_number;
+use lines::say_line;
 use lines::say_order;
+use lines::say_policy;
+use lines::say_refused;
 use settings::Settings;
 use trace::Checked;
 use trace::Summary;
 
-fn say_rule(rule: u16) {
-    match rule {
-        0 => say(b" lru\n"),
-        1 => say(b" clock\n"),
-        2 => say(b" watt\n"),
-        _ => say(b" unknown\n"),
-    }
-}
-
-// A line of a name and a number.
-fn say_line(name: &[u8], n: u64) {
-    say(name);
-    say_number(n);
-    say(b"\n");
-}
-
 fn say_settings(s: Settings) {
-    say(b"policy");
-    say_rule(s.rule);
+    say_policy(s.rule);
     say_line(b"frames", s.frames as u64);
     say_line(b"batch", s.batch as u64);
     say_line(b"cap", s.cap as u64);
@@ -48,7 +33,7 @@ fn say_accepted(summary: Summary, writes: u32) {
 fn inspect_trace(bytes: &[u8]) {
     let c = trace::check(bytes);
     match c {
-        Checked::Refused(r) => say_line(b"trace refused", r as u64),
+        Checked::Refused(r) => say_refused(r),
         Checked::Accepted(summary) => say_accepted(summary, trace::writes(bytes, summary)),
     }
 }

@@ -1,11 +1,12 @@
 // Sets any number of a pool, sound or not, and prints or digests what it holds: for the drills.
 use lines::say;
+use lines::say_bool;
 use lines::say_number;
+use lines::say_places;
 use pool::Frame;
 use pool::Pool;
 use settings::Settings;
-ghost use Prim.Native.Nat.{_+_, _<_, _≤_};
-ghost use lib.ListN.{length};
+ghost use Prim.Native.Nat.{_<_};
 
 fn either8(first: bool, x: u32, y: u8) -> u8 {
     if first { (x % 256) as u8 } else { y }
@@ -172,10 +173,6 @@ pub fn say_pool(p: Pool) {
     say_number(digest_pool(p));
 }
 
-fn say_bool(x: bool) {
-    if x { say(b" 1") } else { say(b" 0") }
-}
-
 fn say_fields(fr: Frame) {
     say_bool(fr.used);
     say_number(fr.page as u64);
@@ -185,20 +182,6 @@ fn say_fields(fr: Frame) {
     say_number(fr.last as u64);
     say_number(fr.accesses as u64);
     say_number(fr.writes as u64);
-}
-
-fn say_word(x: u32) {
-    say_number(x as u64);
-}
-
-fn say_places(l: &[u32], at: usize, n: usize)
-    requires { ⌜ at + n ≤ length (now l) ⌝ }
-{
-    let mut j: usize = 0;
-    while j < n {
-        say_word(l[at + j]);
-        j += 1;
-    }
 }
 
 pub fn say_frame(p: Pool, i: usize) {

@@ -1,14 +1,53 @@
 // Words and numbers on standard output, for the programs.
+ghost use Prim.Native.Nat.{_+_, _≤_, _<_};
+ghost use lib.ListN.{length};
 use word::Order;
 
 pub fn say(text: &[u8]) {
     io::write_all(libc::STDOUT_FILENO, text);
 }
 
+// A number that begins a line.
+pub fn say_first(n: u64) {
+    io::print_decimal(libc::STDOUT_FILENO, n);
+}
+
 // A number, after a space.
 pub fn say_number(n: u64) {
     say(b" ");
-    io::print_decimal(libc::STDOUT_FILENO, n);
+    say_first(n);
+}
+
+fn say_word(x: u32) {
+    say_number(x as u64);
+}
+
+// 1 or 0, after a space.
+pub fn say_bool(x: bool) {
+    if x { say(b" 1") } else { say(b" 0") }
+}
+
+// A line of a name and a number.
+pub fn say_line(name: &[u8], n: u64) {
+    say(name);
+    say_number(n);
+    say(b"\n");
+}
+
+// All that is said of a bad trace.
+pub fn say_refused(refusal: u32) {
+    say_line(b"trace refused", refusal as u64);
+}
+
+// The line of a rule's name.
+pub fn say_policy(rule: u16) {
+    say(b"policy");
+    match rule {
+        0 => say(b" lru\n"),
+        1 => say(b" clock\n"),
+        2 => say(b" watt\n"),
+        _ => say(b" unknown\n"),
+    }
 }
 
 // An order's name, after a space.
@@ -17,4 +56,80 @@ pub fn say_order(order: Order) {
         Order::High => say(b" high"),
         Order::Low => say(b" low"),
     }
+}
+
+// The n numbers of a list from `at` on, each after a space.
+pub fn say_places(l: &[u32], at: usize, n: usize)
+    requires { ⌜ at + n ≤ length (now l) ⌝ }
+{
+    let mut j: usize = 0;
+    while j < n {
+        say_word(l[at + j]);
+        j += 1;
+    }
+}
+
+// What follows number i of a table: the last of a line ends it.
+fn ending(i: usize, width: usize) -> u8
+    requires { ⌜ (i < 65536) × (0 < width) ⌝ }
+{
+    if (i + 1) % width == 0 { b'\n' } else { b' ' }
+}
+
+// Puts a byte to the text at `at`, and answers the place after it. A full text is written and begun anew.
+fn put_byte(text: &mut [u8; 4096], at: usize, byte: u8) -> usize
+    requires { ⌜ at < 4096 ⌝ }
+    ensures { λ r. ⌜ r < 4096 ⌝ }
+{
+    text[at] = byte;
+    if at + 1 < 4096 {
+        return at + 1;
+    }
+    say(text);
+    0
+}
+
+fn put_bytes(text: &mut [u8; 4096], at: usize, bytes: &[u8]) -> usize
+    requires { ⌜ at < 4096 ⌝ }
+    ensures { λ r. ⌜ r < 4096 ⌝ }
+{
+    let mut next = at;
+    let mut j: usize = 0;
+    while j < bytes.len() {
+        next = put_byte(text, next, bytes[j]);
+        j += 1;
+    }
+    next
+}
+
+fn put_number(text: &mut [u8; 4096], at: usize, n: u32) -> usize
+    requires { ⌜ at < 4096 ⌝ }
+    ensures { λ r. ⌜ r < 4096 ⌝ }
+{
+    let mut digits = [0u8; 20];
+    let count = io::decimal(n as u64, &mut digits);
+    put_bytes(text, at, &digits[..count])
+}
+
+// What the text holds before `at`. It comes by value, so that its length is known.
+fn say_text(text: [u8; 4096], at: usize)
+    requires { ⌜ at < 4096 ⌝ }
+{
+    say(&text[0..at]);
+}
+
+// The first n numbers of a list, `width` to a line. They are gathered in a text, since a listing has tens of thousands of
+// them and a write for each takes ten times as long.
+pub fn say_table(l: &[u32], n: usize, width: usize)
+    requires { ⌜ (n ≤ length (now l)) × (n ≤ 65536) × (0 < width) ⌝ }
+{
+    let mut text = [0u8; 4096];
+    let mut at: usize = 0;
+    let mut i: usize = 0;
+    while i < n {
+        at = put_number(&mut text, at, l[i]);
+        at = put_byte(&mut text, at, ending(i, width));
+        i += 1;
+    }
+    say_text(text, at);
 }

@@ -9,9 +9,10 @@ use lib.Seq.{getD-set-same, getD-set-other}
 use lib.Dec.{eqb}
 use borrow.Author.Tests.{eq-eqb, eqb-true}
 use Rattle.search.specs.declared.Found.the-variants.{At, Nothing}
-use Rattle.search.specs.Search.{never}
-use Rattle.search.proofs.Least.{least-sound, least-none, first-lowest}
+use Rattle.search.specs.Search.{leastBelow, never}
+use Rattle.search.proofs.Least.{least-sound, least-none, least-cong, first-lowest}
 use Rattle.search.proofs.Every.{undenied}
+use Rattle.settings.specs.declared.Settings.{Settings}
 use Rattle.settings.proofs.Laws.{ranges}
 use Rattle.pool.specs.declared.Frame.{Frame}
 use Rattle.pool.specs.declared.Pool.{Pool}
@@ -219,16 +220,41 @@ module _ (p : Pool) (s : Sound p) (z : Sized p) (i page : ℕ) (l : i < p .setti
 
 -- into the lowest unused frame, and into the frame of a victim where none is unused
 module _ (p : Pool) (s : Sound p) (z : Sized p) (page : ℕ) (miss : findPage (p .frames) page ≡ Nothing) (room : p .k < referenceLimit) where
-  pub unused-sound : (i : ℕ) (write : Bool) → lowestUnused p ≡ At i → Sound (fetchedAt p i page write)
-  unfolding lowestUnused
-  unused-sound i write h =
-      fetch-sound p s z i page (least-sound (unused (p .frames)) never (p .settings .frames) i h .0)
-      (λ j l. undenied (frameAt (p .frames) j .used) (first-lowest (unused (p .frames)) (p .settings .frames) i j h l))
-      (λ j l. find-absent p s page j miss l) write room
+  module _ (i : ℕ) (write : Bool) (h : lowestUnused p ≡ At i) where
+    within : i < p .settings .frames
+    unfolding lowestUnused
+    within = least-sound (unused (p .frames)) never (p .settings .frames) i h .0
 
-  pub victim-sound : (i : ℕ) (write : Bool) → lowestUnused p ≡ Nothing → i < p .settings .frames → Sound (fetchedAt p i page write)
+    under : (j : ℕ) → j < i → frameAt (p .frames) j .used ≡ true
+    unfolding lowestUnused
+    under j l = undenied (frameAt (p .frames) j .used) (first-lowest (unused (p .frames)) (p .settings .frames) i j h l)
+
+    pub unused-sound : Sound (fetchedAt p i page write)
+    unused-sound = fetch-sound p s z i page within under (λ j. find-absent p s page j miss) write room
+
+    pub unused-sized : Sized (fetchedAt p i page write)
+    unused-sized = fetch-sized p s z i page within under (λ j. find-absent p s page j miss) write room
+
+  module _ (i : ℕ) (write : Bool) (h : lowestUnused p ≡ Nothing) (l : i < p .settings .frames) where
+    all-used : (j : ℕ) → j < i → frameAt (p .frames) j .used ≡ true
+    unfolding lowestUnused
+    all-used j k = undenied (frameAt (p .frames) j .used) (least-none (unused (p .frames)) never (p .settings .frames) j h (omega arith))
+
+    pub victim-sound : Sound (fetchedAt p i page write)
+    victim-sound = fetch-sound p s z i page l all-used (λ j. find-absent p s page j miss) write room
+
+    pub victim-sized : Sized (fetchedAt p i page write)
+    victim-sized = fetch-sized p s z i page l all-used (λ j. find-absent p s page j miss) write room
+
+-- a quiet change moves no page
+module _ (p q : Pool) (s : Sound p) (c : Quiet p q) where
+  pub quiet-find : (page : ℕ) → findPage (q .frames) page ≡ findPage (p .frames) page
+  unfolding findPage
+  quiet-find page = least-cong (has (q .frames) page) (has (p .frames) page) never never 128 (λ j l. rw (c .frame j l .used, c .frame j l .page)) (λ i j l k. refl)
+
+  pub quiet-unused : lowestUnused q ≡ lowestUnused p
   unfolding lowestUnused
-  victim-sound i write h l =
-      fetch-sound p s z i page l
-      (λ j k. undenied (frameAt (p .frames) j .used) (least-none (unused (p .frames)) never (p .settings .frames) j h (omega arith)))
-      (λ j k. find-absent p s page j miss k) write room
+  quiet-unused =
+      let few = ranges (p .settings) (s .settings) .frames .1 in
+      ap (λ (n : Settings). leastBelow (unused (q .frames)) never (n .frames)) (c .settings)
+      ∙ least-cong (unused (q .frames)) (unused (p .frames)) never never (p .settings .frames) (λ j l. rw (c .frame j (omega arith) .used)) (λ i j l k. refl)

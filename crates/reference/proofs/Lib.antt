@@ -5,3 +5,4 @@ pub mod Logged
 pub mod Ready
 pub mod Keeps
 pub mod Others
+pub mod Referred

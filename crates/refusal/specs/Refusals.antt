@@ -34,6 +34,22 @@ wrongWrites = 7
 abbrev pub outOfRange : ℕ
 outOfRange = 8
 
+-- 9: k is 50,000 at a reference
+abbrev pub noReferenceLeft : ℕ
+noReferenceLeft = 9
+
+-- 10: a miss with all f frames in use and pinned
+abbrev pub noFrame : ℕ
+noFrame = 10
+
+-- 11: unpin of a page not resident or with pin count 0
+abbrev pub notPinned : ℕ
+notPinned = 11
+
+-- 12: pin of a resident page with pin count 255
+abbrev pub pinsFull : ℕ
+pinsFull = 12
+
 -- 13: a lent buffer is too short
 abbrev pub noRoom : ℕ
 noRoom = 13
@@ -41,6 +57,10 @@ noRoom = 13
 -- 14: pool not sound, or a count of the tally handed in above 4,000,000,000
 abbrev pub notSound : ℕ
 notSound = 14
+
+-- 15: trace settings differ from the pool's
+abbrev pub otherSettings : ℕ
+otherSettings = 15
 
 -- what follows where a demand is met, else its refusal: demands written one after the other are checked in that order
 abbrev pub demand : Bool → ℕ → ℕ → ℕ

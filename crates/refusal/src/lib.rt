@@ -18,9 +18,19 @@ pub const WRONG_WRITES: u32 = 7;
 
 pub const OUT_OF_RANGE: u32 = 8;
 
+pub const NO_REFERENCE_LEFT: u32 = 9;
+
+pub const NO_FRAME: u32 = 10;
+
+pub const NOT_PINNED: u32 = 11;
+
+pub const PINS_FULL: u32 = 12;
+
 pub const NO_ROOM: u32 = 13;
 
 pub const NOT_SOUND: u32 = 14;
+
+pub const OTHER_SETTINGS: u32 = 15;
 
 // What follows where the demand is met, else the refusal.
 pub fn demanded(met: bool, refusal: u32, after: u32) -> u32

@@ -1,3 +1,4 @@
 pub mod Least
 pub mod Every
 pub mod Among
+pub mod Count

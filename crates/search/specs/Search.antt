@@ -1,7 +1,7 @@
--- Searches among the numbers below a bound: the least that passes a test, the lowest on a tie; and whether every one passes.
+-- Searches among the numbers below a bound: the least that passes a test, the lowest on a tie; whether every one passes; how many do.
 use mathlib.Core.Bool.{Bool, true, false, _&&_, _||_}
 use mathlib.Core.List.{List, [], _∷_}
-use Prim.Native.Nat.{ℕ, zero, suc}
+use Prim.Native.Nat.{ℕ, zero, suc, _+_}
 use lib.Dec.{eqb}
 use Rattle.search.specs.declared.Found.{Found}
 use Rattle.search.specs.declared.Found.the-variants.{At, Nothing}
@@ -43,3 +43,13 @@ everyBelow ok (suc n) = everyBelow ok n && ok n
 unfoldable pub among : List ℕ → ℕ → Bool
 among [] i = false
 among (x ∷ xs) i = eqb x i || among xs i
+
+-- 1 where the test holds, else 0
+abbrev pub oneIf : Bool → ℕ
+oneIf true = 1
+oneIf false = 0
+
+-- how many numbers below a bound pass the test
+unfoldable pub countBelow : (ℕ → Bool) → ℕ → ℕ
+countBelow ok zero = 0
+countBelow ok (suc n) = countBelow ok n + oneIf (ok n)

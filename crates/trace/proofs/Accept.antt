@@ -11,7 +11,7 @@ use Rattle.word.specs.declared.Order.{Order}
 use Rattle.refusal.specs.Refusals.{demand, badField, outOfRange, tooShort, wrongWrites}
 use Rattle.refusal.proofs.Laws.{met, neither}
 use Rattle.settings.specs.Settings.{inRange}
-use Rattle.trace.specs.Layout.{headerLength, fileLength, markOf, firstZeroAt, lastZeroAt, writesAt, countAt, settingsAt, pageAt, kindAt, kindsAt, zerosAt, knownKinds, allZero, writesIn, traceAt, recordOf}
+use Rattle.trace.specs.Layout.{headerLength, fileLength, markOf, firstZeroAt, lastZeroAt, writesAt, countAt, settingsAt, pageAt, kindAt, kindsAt, zerosAt, knownKinds, allZero, writesIn, traceAt, recordIn}
 use Rattle.trace.specs.Check.{zerosRight, layoutRefusal, contentRefusal, refusalIn, refusalMarked, refusalOf, traceOf, decode, summaryOf, checkOf, numberOfAnswer}
 use Rattle.trace.specs.declared.Mark.{Mark}
 use Rattle.trace.specs.declared.Mark.the-variants.{Known, Unknown}
@@ -108,7 +108,7 @@ record-within s h i e l =
     omega arith
 
 pub record-is : (s : List ℕ) (h : Summary) (i : ℕ) → checkOf s ≡ Accepted h → i < h .count
-    → _≡_ {A = Record} (record { page = pageAt (h .order) s i; kind = kindAt (h .order) s i }) (recordOf (traceOf s) i)
+    → _≡_ {A = Record} (record { page = pageAt (h .order) s i; kind = kindAt (h .order) s i }) (recordIn (traceOf s) i)
 unfolding traceAt
 record-is s h i e l =
     let a = accepted-passed s h e in

@@ -160,5 +160,5 @@ unfoldable pub traceAt : Order → List ℕ → Trace
 traceAt o s = traceFrom (settingsAt o s) o (pagesAt o s) (kindsAt o s)
 
 -- record i of a trace
-abbrev pub recordOf : Trace → ℕ → Record
-recordOf t i = record { page = getD (t .pages) i 0; kind = getD (t .kinds) i 0 }
+abbrev pub recordIn : Trace → ℕ → Record
+recordIn t i = record { page = getD (t .pages) i 0; kind = getD (t .kinds) i 0 }

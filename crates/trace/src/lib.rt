@@ -3,7 +3,7 @@ ghost use mathlib.Core.Path.{_≡_};
 ghost use Prim.Native.Nat.{_≤_, _<_};
 ghost use lib.ListN.{length};
 ghost use lib.Seq.{sets};
-ghost use Rattle.trace.specs.Layout.{recordLimit, fileLength, begins, pickMark, markOf, settingsAt, countAt, kindAt, zeroAt, isWrite, knownKinds, writesIn, allZero, upTo, traceAt, recordOf};
+ghost use Rattle.trace.specs.Layout.{recordLimit, fileLength, begins, pickMark, markOf, settingsAt, countAt, kindAt, zeroAt, isWrite, knownKinds, writesIn, allZero, upTo, traceAt, recordIn};
 ghost use Rattle.trace.specs.Check.{layoutRefusal, contentRefusal, refusalIn, checked, outcome, checkOf, Promises, traceOf, ReadInto, WritesAgain};
 use refusal::demanded;
 use settings::Settings;
@@ -204,7 +204,7 @@ pub fn check(bytes: &[u8]) -> Checked
 // Record i of an accepted trace.
 pub fn record_at(bytes: &[u8], summary: Summary, i: usize) -> Record
     requires { ⌜ (checkOf (now bytes) ≡ Checked.Accepted summary) × (i < summary .count) ⌝ }
-    ensures { λ r. ⌜ r ≡ recordOf (traceOf (now (bytes .entry))) i ⌝ }
+    ensures { λ r. ⌜ r ≡ recordIn (traceOf (now (bytes .entry))) i ⌝ }
 {
     let order = summary.order;
     let at = 48 + 8 * i;

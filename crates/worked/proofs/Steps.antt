@@ -10,8 +10,7 @@ use Rattle.reference.specs.Reference.{hitAt, fetchedAt}
 use Rattle.victim.specs.declared.Choice.{Choice}
 use Rattle.victim.specs.Choice.{leftBy}
 use Rattle.victim.specs.Rules.{choiceOf}
-use Rattle.batch.specs.Batch.{batchOf, cleaned, pagesOf}
-use Rattle.batch.proofs.Laws.{withFrames}
+use Rattle.batch.specs.Batch.{batchOf, cleaned, pagesOf, withFrames}
 
 -- a pool of f frames under a rule, with a batch size and a cap
 abbrev pub fresh : ℕ → ℕ → ℕ → ℕ → Pool

@@ -9,6 +9,5 @@ writes-requires c κs = sym (c .before .before .before .check .ensures .0) ∙ c
 pub inspect-trace-spec : {M : Type 1} → statement M
 inspect-trace-spec =
     tie.close
-    (tie.spec (λ c κs. search needs) (λ c. search needs) (λ c. search needs) (λ c. search needs)
-    (λ c κs. search needs) (λ c. search needs) writes-requires (λ c κs. search needs) (λ c. search needs)
-    (λ c. search needs))
+    (tie.spec (λ c κs. search needs) (λ c. search needs) (λ c κs. search needs) (λ c. search needs) writes-requires
+    (λ c κs. search needs) (λ c. search needs) (λ c. search needs))

@@ -5,7 +5,7 @@ use lib.ListN.{length, length-set}
 use lib.Seq.{sets}
 use denote.Ref.{now}
 use borrow.Author.Needs.{needs}
-use Rattle.trace.specs.Layout.{upTo, recordOf}
+use Rattle.trace.specs.Layout.{upTo, recordIn}
 use Rattle.trace.specs.Check.{traceOf}
 use Rattle.trace.specs.declared.Record.{Record}
 use Rattle.trace.proofs.Lists.{fill-more, upTo-is}
@@ -16,8 +16,8 @@ use Rattle.trace.proofs.read_records.Tie as tie
 abbrev Inv-loop : tie.InvT-loop
 Inv-loop bytes summary pages₀ kinds₀ n i₀ pages kinds i =
     (i ≤ n) × (length pages ≡ length pages₀) × (length kinds ≡ length kinds₀)
-    × (pages ≡ sets pages₀ 0 (upTo (λ (j : ℕ). recordOf (traceOf bytes) j .page) i))
-    × (kinds ≡ sets kinds₀ 0 (upTo (λ (j : ℕ). recordOf (traceOf bytes) j .kind) i))
+    × (pages ≡ sets pages₀ 0 (upTo (λ (j : ℕ). recordIn (traceOf bytes) j .page) i))
+    × (kinds ≡ sets kinds₀ 0 (upTo (λ (j : ℕ). recordIn (traceOf bytes) j .kind) i))
 
 abbrev μ-loop : tie.MeasureT-loop
 μ-loop bytes summary pages₀ kinds₀ n i₀ pages kinds i = n - i
@@ -30,8 +30,8 @@ loop-again c =
     let l = c .before .before in
     let a = l .before .before .before .before .before .args in
     let t = traceOf (now (a .bytes)) in
-    let page : ℕ → ℕ = λ j. recordOf t j .page in
-    let kind : ℕ → ℕ = λ j. recordOf t j .kind in (
+    let page : ℕ → ℕ = λ j. recordIn t j .page in
+    let kind : ℕ → ℕ = λ j. recordIn t j .kind in (
       omega arith,
       simp length-set (l .loop .inv .1),
       simp length-set (l .loop .inv .2),
@@ -46,8 +46,8 @@ returns c =
     let t = traceOf (now (b .args .bytes)) in
     let n = counts-are (now (b .args .bytes)) (b .args .summary) (b .pre .0) in
     let e : l .loop .i ≡ b .args .summary .count = omega arith in
-    let p = upTo-is (λ (j : ℕ). recordOf t j .page) (t .pages) (λ i lt. refl) in
-    let k = upTo-is (λ (j : ℕ). recordOf t j .kind) (t .kinds) (λ i lt. refl) in
+    let p = upTo-is (λ (j : ℕ). recordIn t j .page) (t .pages) (λ i lt. refl) in
+    let k = upTo-is (λ (j : ℕ). recordIn t j .kind) (t .kinds) (λ i lt. refl) in
     (l .loop .inv .3 ∙ rw (e, ← n .0, p), l .loop .inv .4 ∙ rw (e, ← n .1, k))
 
 pub read-records-spec : {M : Type 1} → statement M

@@ -1,7 +1,7 @@
 use Prim.Native.Nat.{_-_, _≤_}
 use borrow.Author.Needs.{needs}
-use Rattle.knobs.proofs.say_places.Statement.{statement}
-use Rattle.knobs.proofs.say_places.Tie as tie
+use Rattle.lines.proofs.say_places.Statement.{statement}
+use Rattle.lines.proofs.say_places.Tie as tie
 
 abbrev Inv-loop : tie.InvT-loop
 Inv-loop l at n j₀ j = j ≤ n

@@ -1,0 +1,32 @@
+// Replays a trace on standard input to counts from a fresh pool, and prints the sheet, or `trace refused N`.
+use lines::say_line;
+use lines::say_policy;
+use lines::say_refused;
+use trace::Checked;
+use trace::Summary;
+
+// The sheet of an accepted trace, which no replay from a fresh pool by its own settings refuses.
+fn say_sheet(summary: Summary, bytes: &[u8]) {
+    let settings = summary.settings;
+    let opened = pool::fresh(settings);
+    let ended = replay::counts(opened.pool, tally::zero(), bytes);
+    say_policy(settings.rule);
+    say_line(b"frames", settings.frames as u64);
+    say_line(b"records", summary.count as u64);
+    listing::say_counts(ended.tally);
+}
+
+fn bench(bytes: &[u8]) {
+    let c = trace::check(bytes);
+    match c {
+        Checked::Refused(r) => say_refused(r),
+        Checked::Accepted(summary) => say_sheet(summary, bytes),
+    }
+}
+
+// The longest trace has 64,048 bytes. One byte more is read, so that a longer input shows its wrong length.
+fn main() {
+    let mut space = [0u8; 64049];
+    let n = io::read_full(libc::STDIN_FILENO, &mut space);
+    bench(&space[..n]);
+}

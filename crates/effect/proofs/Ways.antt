@@ -1,0 +1,144 @@
+-- The ways through a record, over variables.
+use mathlib.Core.Path.{_≡_, refl, sym, subst, _∙_}
+use mathlib.Core.Bool.{Bool, true, false, _&&_}
+use mathlib.Core.List.{List, []}
+use Prim.Native.Nat.{ℕ, zero, suc, _+_, _≤_, _<_}
+use native.Mathlib.Omega.{arith}
+use lib.ListN.{length}
+use lib.Dec.{eqb, leb}
+use Rattle.search.specs.declared.Found.the-variants.{At, Nothing}
+use Rattle.search.specs.declared.Found.{Found}
+use Rattle.search.specs.Search.{pick, onFound, never}
+use Rattle.search.proofs.Every.{pick-ind}
+use Rattle.search.proofs.Least.{least-sound}
+use Rattle.settings.proofs.Laws.{ranges}
+use Rattle.refusal.specs.Refusals.{badField, noReferenceLeft, noFrame, notPinned, pinsFull}
+use Rattle.pool.specs.declared.Frame.{Frame}
+use Rattle.pool.specs.declared.Pool.{Pool}
+use Rattle.pool.specs.Pool.{referenceLimit}
+use Rattle.pool.specs.Sound.{soundPool}
+use Rattle.pool.proofs.Sound.{told}
+use Rattle.reference.specs.Search.{has, findPage, unused, lowestUnused}
+use Rattle.reference.specs.Reference.{hitAt, unpinnedAt}
+use Rattle.victim.specs.declared.Choice.{Choice}
+use Rattle.victim.specs.Choice.{leftBy}
+use Rattle.victim.specs.Rules.{choiceOf}
+use Rattle.tally.specs.Rows.{row, hit, missUnused, unpinned}
+use Rattle.effect.specs.declared.Effect.{Effect}
+use Rattle.effect.specs.Record.{Did, did, pinLimit, pinsAt, refusal, pinnedWhere, filled, hitOf, leavingOf, evictionOf, missOf, referenceOf, unpinOf, recordOf}
+use Rattle.effect.specs.Effect.{effectOf, Leaves, Plays}
+
+module _ (p : Pool) (page : ℕ) (write pin : Bool) where
+  pub at-limit : leb referenceLimit (p .k) ≡ true → referenceOf p page write pin ≡ refusal p noReferenceLeft
+  unfolding referenceOf
+  at-limit e = rw e
+
+  pub resident : (i : ℕ) → leb referenceLimit (p .k) ≡ false → findPage (p .frames) page ≡ At i → referenceOf p page write pin ≡ hitOf p i write pin
+  unfolding referenceOf
+  resident i e a = rw (e, a)
+
+  pub absent : leb referenceLimit (p .k) ≡ false → findPage (p .frames) page ≡ Nothing → referenceOf p page write pin ≡ missOf p page write pin
+  unfolding referenceOf
+  absent e a = rw (e, a)
+
+  pub free : (i : ℕ) → lowestUnused p ≡ At i → missOf p page write pin ≡ did (row missUnused i 0 0) [] (filled p i page write pin)
+  unfolding missOf
+  free i a = rw a
+
+  pub full : lowestUnused p ≡ Nothing → missOf p page write pin ≡ evictionOf p page write pin
+  unfolding missOf
+  full a = rw a
+
+  pub victim : (c : Choice) (v : ℕ) → c ≡ choiceOf p → c .found ≡ At v → evictionOf p page write pin ≡ leavingOf (leftBy p c) v page write pin
+  unfolding evictionOf
+  victim c v e a = rw (← e, a)
+
+  pub no-victim : choiceOf p .found ≡ Nothing → evictionOf p page write pin ≡ refusal p noFrame
+  unfolding evictionOf
+  no-victim a = rw a
+
+module _ (p : Pool) (i : ℕ) (write pin : Bool) where
+  pub pins-full : (pin && eqb (pinsAt p i) pinLimit) ≡ true → hitOf p i write pin ≡ refusal p pinsFull
+  unfolding hitOf
+  pins-full e = rw e
+
+  pub pins-free : (pin && eqb (pinsAt p i) pinLimit) ≡ false → hitOf p i write pin ≡ did (row hit i 0 0) [] (pinnedWhere (hitAt p i write) pin i)
+  unfolding hitOf
+  pins-free e = rw e
+
+module _ (p : Pool) (page : ℕ) where
+  pub unpin-absent : findPage (p .frames) page ≡ Nothing → unpinOf p page ≡ refusal p notPinned
+  unfolding unpinOf
+  unpin-absent a = rw a
+
+  pub unpin-none : (i : ℕ) → findPage (p .frames) page ≡ At i → eqb (pinsAt p i) 0 ≡ true → unpinOf p page ≡ refusal p notPinned
+  unfolding unpinOf
+  unpin-none i a e = rw (a, e)
+
+  pub unpin-one : (i : ℕ) → findPage (p .frames) page ≡ At i → eqb (pinsAt p i) 0 ≡ false → unpinOf p page ≡ did (row unpinned i 0 0) [] (unpinnedAt p i)
+  unfolding unpinOf
+  unpin-one i a e = rw (a, e)
+
+  -- the kinds
+  pub kind-read : (kind : ℕ) → kind ≡ 0 → recordOf p page kind ≡ referenceOf p page false false
+  unfolding recordOf
+  kind-read kind e = rw e
+
+  pub kind-write : (kind : ℕ) → kind ≡ 1 → recordOf p page kind ≡ referenceOf p page true false
+  unfolding recordOf
+  kind-write kind e = rw e
+
+  pub kind-pin : (kind : ℕ) → kind ≡ 2 → recordOf p page kind ≡ referenceOf p page false true
+  unfolding recordOf
+  kind-pin kind e = rw e
+
+  pub kind-unpin : (kind : ℕ) → kind ≡ 3 → recordOf p page kind ≡ unpinOf p page
+  unfolding recordOf
+  kind-unpin kind e = rw e
+
+  pub kind-bad : (kind : ℕ) → 4 ≤ kind → recordOf p page kind ≡ refusal p badField
+  unfolding recordOf
+  kind-bad zero l = absurd (omega arith)
+  kind-bad (suc zero) l = absurd (omega arith)
+  kind-bad (suc (suc zero)) l = absurd (omega arith)
+  kind-bad (suc (suc (suc zero))) l = absurd (omega arith)
+  kind-bad (suc (suc (suc (suc kind)))) l = refl
+
+-- what is found is a frame
+pub found-few : (fs : List Frame) (page i : ℕ) → findPage fs page ≡ At i → i < 128
+unfolding findPage
+found-few fs page i e = least-sound (has fs page) never 128 i e .0
+
+pub unused-few : (p : Pool) (i : ℕ) → soundPool p ≡ true → lowestUnused p ≡ At i → i < 128
+unfolding lowestUnused
+unused-few p i s e =
+    let l = least-sound (unused (p .frames)) never (p .settings .frames) i e .0 in
+    let f = ranges (p .settings) (told p s .settings) .frames .1 in
+    omega arith
+
+-- what holds of one way holds of the other
+pub plays-as : (p : Pool) (d e : Did) (at places : ℕ) → d ≡ e → Plays p d at places → Plays p e at places
+plays-as p d e at places h = subst (λ (x : Did). Plays p x at places) h
+
+pub leaves-as : (d e : Did) (at : ℕ) (r : Effect) (before after : List ℕ) → d ≡ e → Leaves e at r before after → Leaves d at r before after
+leaves-as d e at r before after h = subst (λ (x : Did). Leaves x at r before after) (sym h)
+
+pub effect-as : (d e : Did) (r : Effect) → d ≡ e → r ≡ effectOf e → r ≡ effectOf d
+effect-as d e r h x = x ∙ sym (rw h)
+
+-- no page is written
+pub unwritten : (d e : Did) (at : ℕ) (r : Effect) (list : List ℕ) → d ≡ e → e .written ≡ [] → r ≡ effectOf e → Leaves d at r list list
+unwritten d e at r list h w x = leaves-as d e at r list list h (record { effect = x; list = rw w })
+
+pub hit-unwritten : (p : Pool) (i : ℕ) (write pin : Bool) → hitOf p i write pin .written ≡ []
+unfolding hitOf
+hit-unwritten p i write pin =
+    pick-ind (λ (d : Did). d .written ≡ []) (pin && eqb (pinsAt p i) pinLimit) (refusal p pinsFull) (did (row hit i 0 0) [] (pinnedWhere (hitAt p i write) pin i)) (λ _. refl) (λ _. refl)
+
+pub unpin-unwritten : (p : Pool) (page : ℕ) → unpinOf p page .written ≡ []
+unfolding unpinOf
+unpin-unwritten p page = go (findPage (p .frames) page)
+  where
+    go : (f : Found) → onFound f (λ i. pick (eqb (pinsAt p i) 0) (refusal p notPinned) (did (row unpinned i 0 0) [] (unpinnedAt p i))) (refusal p notPinned) .written ≡ []
+    go (At i) = pick-ind (λ (d : Did). d .written ≡ []) (eqb (pinsAt p i) 0) (refusal p notPinned) (did (row unpinned i 0 0) [] (unpinnedAt p i)) (λ _. refl) (λ _. refl)
+    go Nothing = refl

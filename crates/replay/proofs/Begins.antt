@@ -1,0 +1,30 @@
+-- What a replay that may begin tells.
+use mathlib.Core.Path.{_≡_, refl, sym, _∙_}
+use mathlib.Core.Bool.{Bool, true, false, _&&_, and-eq-true-iff}
+use Prim.Native.Nat.{ℕ}
+use lib.Dec.{eqb}
+use Rattle.refusal.specs.Refusals.{demand, notSound}
+use Rattle.pool.specs.declared.Pool.{Pool}
+use Rattle.pool.specs.Sound.{soundPool, checkOf}
+use Rattle.pool.proofs.Sound.{Sound, told}
+use Rattle.tally.specs.declared.Tally.{Tally}
+use Rattle.tally.specs.Tally.{tallyLimit, tallyWithin, Within}
+use Rattle.tally.proofs.Laws.{within-bound}
+use Rattle.replay.specs.Calls.{mayBegin}
+
+-- 0 says that a pool is sound
+pub check-sound : (p : Pool) → eqb (checkOf p) 0 ≡ soundPool p
+unfolding checkOf
+check-sound p = go (soundPool p)
+  where
+    go : (b : Bool) → eqb (demand b notSound 0) 0 ≡ b
+    go true = refl
+    go false = refl
+
+pub begins-sound : (p : Pool) (t : Tally) → mayBegin p t ≡ true → soundPool p ≡ true
+unfolding mayBegin
+begins-sound p t h = and-eq-true-iff (soundPool p) (tallyWithin t) .0 h .0
+
+pub begins-within : (p : Pool) (t : Tally) → mayBegin p t ≡ true → Within t tallyLimit
+unfolding mayBegin
+begins-within p t h = within-bound t (and-eq-true-iff (soundPool p) (tallyWithin t) .0 h .1)

@@ -1,0 +1,26 @@
+use mathlib.Core.Path.{refl}
+use borrow.Author.Needs.{needs}
+use Rattle.tally.specs.Tally.{countedBy}
+use Rattle.tally.proofs.counted.Statement.{statement}
+use Rattle.tally.proofs.counted.Tie as tie
+
+returns : tie.Need-returns
+unfolding countedBy
+returns c =
+    let e4 = c .before .before .before .before in
+    let e3 = e4 .before .before in
+    let e2 = e3 .before .before in
+    rw (
+      c .before .one-if5 .ensures .0,
+      e4 .one-if4 .ensures .0,
+      e3 .one-if3 .ensures .0,
+      e2 .one-if2 .ensures .0,
+      e2 .before .before .one-if .ensures .0,
+    ) refl
+
+pub counted-spec : {M : Type 1} → statement M
+counted-spec =
+    tie.close
+    (tie.spec (λ c κs. search needs) (λ c. search needs) (λ c κs. search needs) (λ c. search needs) (λ c κs. search needs)
+    (λ c. search needs) (λ c κs. search needs) (λ c. search needs) (λ c. search needs) (λ c κs. search needs) (λ c. search needs)
+    returns)

@@ -1,0 +1,119 @@
+// Rows and the tally: what one step answers, and the six counts that it raises.
+ghost use mathlib.Core.Path.{_≡_};
+ghost use Prim.Native.Nat.{_+_, _≤_};
+ghost use lib.ListN.{length};
+ghost use lib.Seq.{sets};
+ghost use Rattle.search.specs.Search.{oneIf};
+ghost use Rattle.tally.specs.Rows.{rowNumbers};
+ghost use Rattle.tally.specs.Tally.{countedBy, tallyWithin, zeroTally, Countable};
+
+pub struct Row {
+    pub outcome: u32,
+    pub frame: u32,
+    pub left: u32,
+    pub batch: u32,
+}
+
+pub struct Tally {
+    pub hits: u32,
+    pub misses: u32,
+    pub evictions: u32,
+    pub batches: u32,
+    pub written: u32,
+    pub refused: u32,
+}
+
+pub const HIT: u32 = 0;
+
+pub const MISS_UNUSED: u32 = 1;
+
+pub const MISS_CLEAN: u32 = 2;
+
+pub const MISS_DIRTY: u32 = 3;
+
+pub const UNPINNED: u32 = 4;
+
+// Refusal r is the outcome REFUSED + r.
+pub const REFUSED: u32 = 100;
+
+// The most that a count may be in a tally that is handed in.
+pub const TALLY_LIMIT: u32 = 4000000000;
+
+// The tally before any step.
+pub fn zero() -> Tally
+    ensures { λ r. ⌜ r ≡ zeroTally ⌝ }
+{
+    Tally {
+        hits: 0,
+        misses: 0,
+        evictions: 0,
+        batches: 0,
+        written: 0,
+        refused: 0,
+    }
+}
+
+// Whether no count is above the limit.
+pub fn within(t: Tally) -> bool
+    ensures { λ r. ⌜ r ≡ tallyWithin t ⌝ }
+{
+    (t.hits <= TALLY_LIMIT)
+        & ((t.misses <= TALLY_LIMIT)
+            & ((t.evictions <= TALLY_LIMIT)
+                & ((t.batches <= TALLY_LIMIT)
+                    & ((t.written <= TALLY_LIMIT) & (t.refused <= TALLY_LIMIT)))))
+}
+
+// 1 where it is such, else 0.
+pub fn one_if(such: bool) -> u32
+    ensures { λ r. ⌜ (r ≡ oneIf such) × (r ≤ 1) ⌝ }
+{
+    if such { 1 } else { 0 }
+}
+
+// The tally after one more row: pins count as hits or misses, unpins as neither.
+pub fn counted(t: Tally, row: Row) -> Tally
+    requires { ⌜ Countable t row ⌝ }
+    ensures { λ r. ⌜ r ≡ countedBy t row ⌝ }
+{
+    let outcome = row.outcome;
+    let pages = row.batch;
+    Tally {
+        hits: t.hits + one_if(outcome == HIT),
+        misses: t.misses + one_if((MISS_UNUSED <= outcome) & (outcome <= MISS_DIRTY)),
+        evictions: t.evictions + one_if((MISS_CLEAN <= outcome) & (outcome <= MISS_DIRTY)),
+        batches: t.batches + one_if(outcome == MISS_DIRTY),
+        written: t.written + pages,
+        refused: t.refused + one_if(REFUSED <= outcome),
+    }
+}
+
+// The same on a tally that is lent: its six counts are raised in place.
+pub fn raise(t: &mut Tally, row: Row)
+    requires { ⌜ Countable (now t) row ⌝ }
+    ensures { λ _. ⌜ now (t .exit) ≡ countedBy (now (t .entry)) row ⌝ }
+{
+    let next = counted(*t, row);
+    *t = next;
+}
+
+// From a tally by value to the lent one and back: whoever calls it makes no reference to a struct.
+pub fn raised(t: Tally, row: Row) -> Tally
+    requires { ⌜ Countable t row ⌝ }
+    ensures { λ r. ⌜ r ≡ countedBy t row ⌝ }
+{
+    let mut next = t;
+    raise(&mut next, row);
+    next
+}
+
+// Stores the four numbers of a row at a place.
+pub fn put_row(rows: &mut [u32], at: usize, row: Row)
+    requires { ⌜ at + 4 ≤ length (now rows) ⌝ }
+    ensures { λ _. ⌜ now (rows .exit) ≡ sets (now (rows .entry)) at (rowNumbers row) ⌝ }
+{
+    rows[at] = row.outcome;
+    rows[at + 1] = row.frame;
+    rows[at + 2] = row.left;
+    rows[at + 3] = row.batch;
+}
