@@ -2,7 +2,15 @@
 ghost use mathlib.Core.Path.{_≡_};
 ghost use Rattle.trace.specs.Check.{checkOf, numberOfAnswer};
 ghost use Rattle.scribe.specs.Write.{ConvertedTo, ConvertsBack};
+ghost use Prim.Native.Nat.{_≤_};
+ghost use lib.ListN.{length};
+ghost use lib.Seq.{sets};
+ghost use Rattle.trace.specs.Check.{traceOf};
+ghost use Rattle.host.specs.Counts.{countsLength, countBytes, freshCounts, CountsInto};
+use tally::Tally;
 use trace::Checked;
+use trace::Summary;
+use word::Order;
 
 // 0, or the trace's refusal.
 #[no_mangle]
@@ -23,4 +31,54 @@ pub extern "C" fn hitchyawl_convert(bytes: &[u8], out: &mut [u8]) -> u32
     ensures { λ r. ⌜ ConvertsBack (now (bytes .entry)) r (now (out .exit)) ⌝ }
 {
     scribe::convert(bytes, out)
+}
+
+// The six counts, 4 bytes each, at the front of `out`.
+fn put_tally(out: &mut [u8], order: Order, t: Tally)
+    requires { ⌜ countsLength ≤ length (now out) ⌝ }
+    ensures { λ _. ⌜ now (out .exit) ≡ sets (now (out .entry)) 0 (countBytes order t) ⌝ }
+{
+    word::put32(out, 0, order, t.hits);
+    word::put32(out, 4, order, t.misses);
+    word::put32(out, 8, order, t.evictions);
+    word::put32(out, 12, order, t.batches);
+    word::put32(out, 16, order, t.written);
+    word::put32(out, 20, order, t.refused);
+}
+
+// The counts of an accepted trace from a fresh pool, which replay does not refuse.
+fn fresh_counts(bytes: &[u8], summary: Summary) -> Tally
+    requires { ⌜ checkOf (now bytes) ≡ Checked.Accepted summary ⌝ }
+    ensures { λ r. ⌜ r ≡ freshCounts (traceOf (now (bytes .entry))) ⌝ }
+{
+    let settings = summary.settings;
+    let opened = pool::fresh(settings);
+    let fresh = opened.pool;
+    let ended = replay::counts(fresh, tally::zero(), bytes);
+    ended.tally
+}
+
+fn counts_accepted(bytes: &[u8], summary: Summary, out: &mut [u8]) -> u32
+    requires { ⌜ checkOf (now bytes) ≡ Checked.Accepted summary ⌝ }
+    ensures { λ r. ⌜ CountsInto (now (bytes .entry)) (now (out .entry)) r (now (out .exit)) ⌝ }
+{
+    if out.len() < 24 {
+        return refusal::NO_ROOM;
+    }
+    let order = summary.order;
+    let t = fresh_counts(bytes, summary);
+    put_tally(out, order, t);
+    0
+}
+
+// The six counts of a replay from a fresh pool in the first 24 bytes of `out`, in the trace's order: 0, or the refusal with nothing stored.
+#[no_mangle]
+pub extern "C" fn hitchyawl_counts(bytes: &[u8], out: &mut [u8]) -> u32
+    ensures { λ r. ⌜ CountsInto (now (bytes .entry)) (now (out .entry)) r (now (out .exit)) ⌝ }
+{
+    let c = trace::check(bytes);
+    match c {
+        Checked::Refused(r) => r,
+        Checked::Accepted(summary) => counts_accepted(bytes, summary, out),
+    }
 }

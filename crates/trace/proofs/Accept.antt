@@ -135,3 +135,8 @@ counts-are s h e =
     let a = accepted-passed s h e in
     let o = h .order in
     rw (trace-is o s (a .0 .mark), a .1) (length-upTo (pageAt o s) (countAt o s), length-upTo (kindAt o s) (countAt o s))
+
+-- its settings are in range
+pub accepted-range : (s : List ℕ) (h : Summary) → checkOf s ≡ Accepted h → inRange (traceOf s .settings) ≡ true
+unfolding traceAt
+accepted-range s h e = let p = accepted-passed s h e .0 in rw (trace-is (h .order) s (p .mark)) (p .fill .range)

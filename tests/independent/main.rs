@@ -1,0 +1,341 @@
+//! A second program for the replay, written from the paper alone, to be held
+//! against another one. It lists traces and series, makes them from seeds,
+//! compares its listings with those of two given programs, and times itself.
+
+mod replay;
+#[cfg(test)]
+mod tests;
+mod traces;
+
+use replay::{check, go_on, Pool, Replayed, Rule, Tally, Trace};
+use std::collections::BTreeMap;
+use std::error::Error;
+use std::fmt;
+use std::hint::black_box;
+use std::io::{self, Read, Write};
+use std::process::{Command, ExitCode, Stdio};
+use std::time::{Duration, Instant};
+
+const USAGE: &str = "\
+usage: listing < TRACE
+       series < ITEMS
+       counts TRACE-FILE REPEAT
+       make SEED > TRACE
+       makeseries SEED > ITEMS
+       skewed lru|clock|watt > TRACE
+       compare ROWS-PROGRAM SERIES-PROGRAM FIRST COUNT SERIESCOUNT";
+
+fn main() -> ExitCode {
+    let arguments: Vec<String> = std::env::args().skip(1).collect();
+    let arguments: Vec<&str> = arguments.iter().map(String::as_str).collect();
+    match run(&arguments) {
+        Ok(code) => code,
+        Err(error) => {
+            eprintln!("{error}");
+            ExitCode::FAILURE
+        }
+    }
+}
+
+fn run(arguments: &[&str]) -> Result<ExitCode, Box<dyn Error>> {
+    let mut stdout = io::stdout().lock();
+    match arguments {
+        ["listing"] => {
+            let text = list_trace(&all_of_stdin()?, &mut |_| {});
+            stdout.write_all(text.as_bytes())?;
+        }
+        ["series"] => {
+            let text = list_series(&all_of_stdin()?, &mut |_| {});
+            stdout.write_all(text.as_bytes())?;
+        }
+        ["counts", file, repeat] => return counts(&std::fs::read(file)?, repeat.parse()?),
+        ["make", seed] => stdout.write_all(&traces::trace(seed.parse()?))?,
+        ["makeseries", seed] => stdout.write_all(&traces::series(seed.parse()?))?,
+        ["skewed", "lru"] => stdout.write_all(&traces::skewed(Rule::Lru))?,
+        ["skewed", "clock"] => stdout.write_all(&traces::skewed(Rule::Clock))?,
+        ["skewed", "watt"] => stdout.write_all(&traces::skewed(Rule::Watt))?,
+        ["compare", rows, series, first, count, series_count] => {
+            let first: u64 = first.parse()?;
+            let (count, series_count) = (count.parse::<u64>()?, series_count.parse::<u64>()?);
+            drop(stdout);
+            return compare(rows, series, first, count, series_count);
+        }
+        _ => return Err(USAGE.into()),
+    }
+    Ok(ExitCode::SUCCESS)
+}
+
+fn all_of_stdin() -> io::Result<Vec<u8>> {
+    let mut bytes = Vec::new();
+    io::stdin().lock().read_to_end(&mut bytes)?;
+    Ok(bytes)
+}
+
+// ------------------------------------------------------------- the listings
+
+/// What a replay put out and left, or its refusal.
+type Replay<'a> = Result<Replayed<'a>, u32>;
+
+/// The listing of one trace, gone on from this state. What came of it is shown
+/// to the watcher.
+fn list_next(
+    state: &mut Option<(Pool, Tally)>,
+    bytes: &[u8],
+    watch: &mut dyn FnMut(&Replay),
+) -> String {
+    let result = go_on(state, bytes);
+    watch(&result);
+    match result {
+        Ok(replayed) => replayed.to_string(),
+        Err(refusal) => format!("trace refused {refusal}\n"),
+    }
+}
+
+/// The listing of one trace from a fresh pool and a zero tally.
+fn list_trace(bytes: &[u8], watch: &mut dyn FnMut(&Replay)) -> String {
+    list_next(&mut None, bytes, watch)
+}
+
+/// The listings of a series. Each trace goes on from what the one before left;
+/// an empty item throws pool and tally away.
+fn list_series(mut bytes: &[u8], watch: &mut dyn FnMut(&Replay)) -> String {
+    let mut state = None;
+    let mut text = String::new();
+    while let Some((length, rest)) = bytes.split_first_chunk::<4>() {
+        let length = u32::from_be_bytes(*length) as usize;
+        let Some((item, rest)) = rest.split_at_checked(length) else {
+            break;
+        };
+        bytes = rest;
+        if item.is_empty() {
+            state = None;
+            text.push_str("anew\n");
+        } else {
+            text.push_str(&list_next(&mut state, item, watch));
+        }
+    }
+    text
+}
+
+impl fmt::Display for Replayed<'_> {
+    fn fmt(&self, to: &mut fmt::Formatter) -> fmt::Result {
+        writeln!(to, "rows {}", self.rows.len())?;
+        for [outcome, frame, left, batch] in &self.rows {
+            writeln!(to, "{outcome} {frame} {left} {batch}")?;
+        }
+        writeln!(to, "written {}", self.written.len())?;
+        for page in &self.written {
+            writeln!(to, "{page}")?;
+        }
+        let Pool {
+            k, hand, sampler, ..
+        } = self.pool;
+        writeln!(to, "pool {k} {hand} {sampler}")?;
+        let in_use = self.pool.frames.iter().filter(|frame| frame.in_use);
+        writeln!(to, "frames {}", in_use.clone().count())?;
+        for frame in in_use {
+            let dirty = u8::from(frame.dirty);
+            write!(to, "{} {dirty} {} ", frame.page, frame.pins)?;
+            write!(to, "{} {}", frame.count, frame.last)?;
+            for log in [frame.access.entries(), frame.write.entries()] {
+                write!(to, " :")?;
+                for epoch in log {
+                    write!(to, " {epoch}")?;
+                }
+            }
+            writeln!(to)?;
+        }
+        writeln!(to, "hits {}", self.tally.hits)?;
+        writeln!(to, "misses {}", self.tally.misses)?;
+        writeln!(to, "evictions {}", self.tally.evictions)?;
+        writeln!(to, "batches {}", self.tally.batches)?;
+        writeln!(to, "written {}", self.tally.written)?;
+        writeln!(to, "refused {}", self.tally.refused)
+    }
+}
+
+// --------------------------------------------------------------- the timing
+
+fn timed(work: impl FnOnce() -> Tally) -> Duration {
+    let start = Instant::now();
+    black_box(work());
+    start.elapsed()
+}
+
+fn replayed(trace: &Trace, pool: &mut Pool) -> Tally {
+    let mut tally = Tally::default();
+    for &(page, kind) in &trace.records {
+        tally.raise(&pool.step(page, kind));
+    }
+    tally
+}
+
+/// Prints the best times for a record: check, fresh pool and replay together,
+/// and then the replay alone.
+fn counts(bytes: &[u8], repeat: u32) -> Result<ExitCode, Box<dyn Error>> {
+    let trace = match check(bytes) {
+        Ok(trace) => trace,
+        Err(refusal) => {
+            println!("trace refused {refusal}");
+            return Ok(ExitCode::FAILURE);
+        }
+    };
+    let (mut with_check, mut alone) = (Duration::MAX, Duration::MAX);
+    for _ in 0..repeat.max(1) {
+        with_check = with_check.min(timed(|| {
+            let trace = check(black_box(bytes)).expect("it was checked before");
+            replayed(&trace, &mut Pool::fresh(trace.settings))
+        }));
+        let mut pool = Pool::fresh(trace.settings);
+        alone = alone.min(timed(|| replayed(black_box(&trace), &mut pool)));
+    }
+    let a_record = |time: Duration| time.as_nanos() as f64 / trace.records.len().max(1) as f64;
+    println!(
+        "checked {:.1} replayed {:.1}",
+        a_record(with_check),
+        a_record(alone)
+    );
+    Ok(ExitCode::SUCCESS)
+}
+
+// ----------------------------------------------------------- the comparison
+
+/// How often each thing occurred.
+#[derive(Default)]
+struct Coverage {
+    records: u64,
+    refused_traces: u64,
+    /// By outcome of a record.
+    outcomes: BTreeMap<u32, u64>,
+    /// By refusal of a trace.
+    refusals: BTreeMap<u32, u64>,
+}
+
+const OUTCOMES: [u32; 9] = [0, 1, 2, 3, 4, 109, 110, 111, 112];
+const REFUSALS: [u32; 9] = [1, 2, 3, 4, 5, 6, 7, 8, 15];
+
+impl Coverage {
+    fn note(&mut self, result: &Replay) {
+        match result {
+            Ok(Replayed { rows, .. }) => {
+                self.records += rows.len() as u64;
+                for [outcome, ..] in rows {
+                    *self.outcomes.entry(*outcome).or_default() += 1;
+                }
+            }
+            Err(refusal) => {
+                self.refused_traces += 1;
+                *self.refusals.entry(*refusal).or_default() += 1;
+            }
+        }
+    }
+
+    /// What should have occurred and never did. Only a series can give 15, and
+    /// that is not asked of every run.
+    fn missing(&self) -> Vec<String> {
+        let outcomes = OUTCOMES
+            .iter()
+            .filter(|outcome| !self.outcomes.contains_key(outcome));
+        let refusals = REFUSALS
+            .iter()
+            .filter(|r| **r != 15 && !self.refusals.contains_key(r));
+        outcomes
+            .map(|outcome| format!("outcome {outcome}"))
+            .chain(refusals.map(|refusal| format!("trace refusal {refusal}")))
+            .collect()
+    }
+
+    fn line(&self, count: u64, series_count: u64) -> String {
+        let times = |numbers: &[u32], times: &BTreeMap<u32, u64>| {
+            let time = |number| times.get(number).copied().unwrap_or(0);
+            let pairs: Vec<String> = numbers
+                .iter()
+                .map(|number| format!("{number}:{}", time(number)))
+                .collect();
+            pairs.join(" ")
+        };
+        format!(
+            "compared {count} traces and {series_count} series alike, {} records, \
+             {} traces refused; outcomes {}; trace refusals {}",
+            self.records,
+            self.refused_traces,
+            times(&OUTCOMES, &self.outcomes),
+            times(&REFUSALS, &self.refusals),
+        )
+    }
+}
+
+/// All that a program prints when it is given these bytes.
+fn output_of(program: &str, input: &[u8]) -> Result<Vec<u8>, Box<dyn Error>> {
+    let mut child = Command::new(program)
+        .stdin(Stdio::piped())
+        .stdout(Stdio::piped())
+        .spawn()
+        .map_err(|error| format!("{program}: {error}"))?;
+    let mut stdin = child.stdin.take().expect("a piped input");
+    let output = std::thread::scope(|scope| {
+        scope.spawn(move || {
+            // A program may well stop reading; its output tells the rest.
+            let _ = stdin.write_all(input);
+        });
+        child.wait_with_output()
+    })?;
+    Ok(output.stdout)
+}
+
+/// The first line in which two texts differ, with its number and both forms.
+fn first_difference(ours: &[u8], theirs: &[u8]) -> Option<(usize, String, String)> {
+    let mut ours = ours.split_inclusive(|&byte| byte == b'\n');
+    let mut theirs = theirs.split_inclusive(|&byte| byte == b'\n');
+    let shown = |line: Option<&[u8]>| match line {
+        Some(line) => format!("{:?}", String::from_utf8_lossy(line)),
+        None => "(nothing)".to_string(),
+    };
+    for number in 1.. {
+        match (ours.next(), theirs.next()) {
+            (None, None) => break,
+            (a, b) if a == b => {}
+            (a, b) => return Some((number, shown(a), shown(b))),
+        }
+    }
+    None
+}
+
+fn compare(
+    rows_program: &str,
+    series_program: &str,
+    first: u64,
+    count: u64,
+    series_count: u64,
+) -> Result<ExitCode, Box<dyn Error>> {
+    let mut coverage = Coverage::default();
+    let traces = (first..first + count).map(|seed| ("trace", seed));
+    let series = (first..first + series_count).map(|seed| ("series", seed));
+    for (kind, seed) in traces.chain(series) {
+        let mut watch = |result: &Replay| coverage.note(result);
+        let (ours, theirs) = if kind == "trace" {
+            let bytes = traces::trace(seed);
+            (
+                list_trace(&bytes, &mut watch),
+                output_of(rows_program, &bytes)?,
+            )
+        } else {
+            let bytes = traces::series(seed);
+            (
+                list_series(&bytes, &mut watch),
+                output_of(series_program, &bytes)?,
+            )
+        };
+        if let Some((line, ours, theirs)) = first_difference(ours.as_bytes(), &theirs) {
+            println!("seed {seed}, {kind}, line {line}: ours {ours}, theirs {theirs}");
+            return Ok(ExitCode::FAILURE);
+        }
+    }
+    println!("{}", coverage.line(count, series_count));
+    let missing = coverage.missing();
+    if missing.is_empty() {
+        return Ok(ExitCode::SUCCESS);
+    }
+    println!("never occurred: {}", missing.join(", "));
+    Ok(ExitCode::FAILURE)
+}

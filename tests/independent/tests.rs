@@ -1,0 +1,514 @@
+//! The paper's examples and edges, a damaged trace for each refusal, and the
+//! soundness of the pool after every step of some generated traces.
+
+use crate::replay::*;
+use crate::traces::{self, encode, put};
+use crate::{first_difference, list_series, list_trace};
+
+const BOTH: [Order; 2] = [Order::HighFirst, Order::LowFirst];
+
+// The kinds.
+const R: u32 = 0;
+const W: u32 = 1;
+const P: u32 = 2;
+const U: u32 = 3;
+
+fn settings(rule: Rule, frames: u32) -> Settings {
+    Settings {
+        rule,
+        frames,
+        batch: 1,
+        cap: 1,
+        sample: 1,
+        weight: 0,
+        epoch: 1,
+        seed: 0,
+    }
+}
+
+fn reads(pages: &[u32]) -> Vec<(u32, u32)> {
+    pages.iter().map(|&page| (page, R)).collect()
+}
+
+/// The rows, pages written, pool and tally of these records in either order.
+fn run(settings: Settings, records: &[(u32, u32)]) -> (Vec<[u32; 4]>, Vec<u32>, Pool, Tally) {
+    let [high, low] = BOTH.map(|order| {
+        let mut state = None;
+        let replayed = go_on(&mut state, &encode(&settings, order, records)).unwrap();
+        let (rows, written) = (replayed.rows, replayed.written);
+        let (pool, tally) = state.unwrap();
+        (rows, written, pool, tally)
+    });
+    assert_eq!(high, low);
+    low
+}
+
+fn listed(bytes: &[u8]) -> String {
+    list_trace(bytes, &mut |_| {})
+}
+
+// -------------------------------------------------------- the worked examples
+
+#[test]
+fn p1_to_p5_worths_and_values() {
+    assert_eq!(worth(&[42, 15, 8, 0], 50), Fraction(4, 50));
+    assert_eq!(worth(&[50], 50), Fraction(1, 10));
+    assert_eq!(worth(&[50, 49], 50), Fraction(2, 1));
+    let mut frame = Frame::default();
+    (frame.access.len, frame.access.epochs[0]) = (1, 49);
+    (frame.write.len, frame.write.epochs[0]) = (1, 49);
+    assert_eq!(frame.value(2, 50), Fraction(3, 10));
+    assert_eq!(frame.value(16, 50), Fraction(17, 10));
+    assert_eq!(worth(&[], 50), Fraction(0, 1));
+    // Neither whole numbers nor small floats tell these apart.
+    assert!(Fraction(3, 42) > Fraction(2, 35));
+    assert!(Fraction(16_777_217, 16_777_216) > Fraction(1, 1));
+}
+
+#[test]
+fn p6_draws() {
+    let mut pool = Pool::fresh(settings(Rule::Watt, 4));
+    assert_eq!([pool.draw(), pool.draw(), pool.draw()], [1, 2, 3]);
+    // Frame 0 is the oldest, but of those drawn frame 1 has the least value.
+    let three = Settings {
+        sample: 3,
+        ..settings(Rule::Watt, 4)
+    };
+    let (rows, _, after, _) = run(three, &reads(&[10, 11, 12, 13, 14]));
+    assert_eq!(rows[4], [2, 1, 11, 0]);
+    assert_eq!(after.sampler, pool.sampler);
+}
+
+#[test]
+fn p7_p8_clock() {
+    let settings = Settings {
+        cap: 2,
+        ..settings(Rule::Clock, 3)
+    };
+    let (rows, _, pool, _) = run(settings, &reads(&[1, 2, 3, 1, 4]));
+    assert_eq!((rows[4], pool.hand), ([2, 1, 2, 0], 2));
+    let (rows, _, pool, _) = run(settings, &reads(&[1, 2, 3, 1, 4, 5]));
+    assert_eq!((rows[5], pool.hand), ([2, 2, 3, 0], 0));
+}
+
+#[test]
+fn p9_p10_batch() {
+    let settings = Settings {
+        batch: 2,
+        ..settings(Rule::Lru, 3)
+    };
+    let (rows, written, _, tally) = run(settings, &[(1, W), (2, W), (3, W), (4, R), (5, R)]);
+    assert_eq!(rows[3..], [[3, 0, 1, 2], [2, 1, 2, 0]]);
+    assert_eq!(written, [1, 2]);
+    let expected = Tally {
+        hits: 0,
+        misses: 5,
+        evictions: 2,
+        batches: 1,
+        written: 2,
+        refused: 0,
+    };
+    assert_eq!(tally, expected);
+}
+
+#[test]
+fn p11_all_pinned() {
+    for rule in [Rule::Lru, Rule::Clock, Rule::Watt] {
+        let (rows, _, pool, tally) = run(settings(rule, 1), &[(1, P), (2, R), (1, R)]);
+        assert_eq!(rows, [[1, 0, 0, 0], [110, 0, 0, 0], [0, 0, 0, 0]]);
+        assert_eq!((pool.k, pool.hand, pool.sampler), (2, 0, 0));
+        assert_eq!(tally.refused, 1);
+    }
+}
+
+#[test]
+fn p12_orders() {
+    assert_eq!(Order::HighFirst.number(&[0, 0, 0, 1]), 1);
+    assert_eq!(Order::LowFirst.number(&[0, 0, 0, 1]), 16_777_216);
+}
+
+#[test]
+fn printed_example() {
+    let expected = "\
+rows 5
+1 0 0 0
+1 1 0 0
+0 0 0 0
+3 1 8 1
+2 0 7 0
+written 1
+8
+pool 5 0 0
+frames 2
+8 0 0 1 4 : 4 :
+9 0 0 1 3 : 3 :
+hits 1
+misses 4
+evictions 2
+batches 1
+written 1
+refused 0
+";
+    let records = [(7, R), (8, W), (7, R), (9, R), (8, R)];
+    for order in BOTH {
+        let bytes = encode(&settings(Rule::Lru, 2), order, &records);
+        assert_eq!(listed(&bytes), expected);
+    }
+}
+
+// ------------------------------------------------------------------ the edges
+
+#[test]
+fn record_counts() {
+    let plain = settings(Rule::Lru, 1);
+    let most = encode(&plain, Order::LowFirst, &reads(&[5; 8_000]));
+    assert_eq!(check(&most).map(|trace| trace.records.len()), Ok(8_000));
+    let more = encode(&plain, Order::LowFirst, &reads(&[5; 8_001]));
+    assert_eq!(check(&more), Err(4));
+    let none = listed(&encode(&plain, Order::HighFirst, &[]));
+    assert!(none.starts_with("rows 0\nwritten 0\npool 0 0 0\nframes 0\nhits 0\n"));
+}
+
+#[test]
+fn settings_edges() {
+    // Offset, width, least, greatest.
+    let ranges = [
+        (24, 2, 0, 2),
+        (26, 2, 1, 128),
+        (28, 2, 1, 16),
+        (30, 2, 1, 7),
+        (32, 2, 1, 16),
+        (34, 2, 0, 16),
+        (36, 4, 1, 50_000),
+    ];
+    for order in BOTH {
+        let plain = encode(&settings(Rule::Lru, 2), order, &reads(&[1]));
+        let refusal = |at: usize, width: usize, number: u32| {
+            let mut bytes = plain.clone();
+            put(&mut bytes, order, at, width, number);
+            check(&bytes).err()
+        };
+        for (at, width, least, greatest) in ranges {
+            assert_eq!(refusal(at, width, least), None);
+            assert_eq!(refusal(at, width, greatest), None);
+            assert_eq!(refusal(at, width, greatest + 1), Some(8));
+            if least > 0 {
+                assert_eq!(refusal(at, width, least - 1), Some(8));
+            }
+        }
+        assert_eq!(refusal(40, 4, u32::MAX), None);
+    }
+}
+
+#[test]
+fn most_references() {
+    let mut pool = Pool::fresh(settings(Rule::Lru, 1));
+    for _ in 0..49_999 {
+        assert!(pool.step(3, Kind::Read).is_ok());
+    }
+    assert_eq!(pool.k, 49_999);
+    let kinds = [
+        (Kind::Pin, 0),
+        (Kind::Pin, 109),
+        (Kind::Read, 109),
+        (Kind::Write, 109),
+        (Kind::Unpin, 4),
+        (Kind::Unpin, 111),
+    ];
+    for (kind, outcome) in kinds {
+        assert_eq!(row(&pool.step(3, kind)), [outcome, 0, 0, 0]);
+    }
+    assert_eq!(pool.k, 50_000);
+    assert_eq!((pool.frames[0].last, pool.frames[0].dirty), (49_999, false));
+    pool.frames[0].pins = 255;
+    assert_eq!(pool.step(3, Kind::Pin), Err(9));
+}
+
+#[test]
+fn most_pins() {
+    let mut records = vec![(9, P); 256];
+    records.extend([(9, R), (9, U), (9, P), (8, U), (9, W)]);
+    let (rows, _, pool, tally) = run(settings(Rule::Clock, 2), &records);
+    let outcomes: Vec<u32> = rows[254..].iter().map(|row| row[0]).collect();
+    assert_eq!(outcomes, [0, 112, 0, 4, 0, 111, 0]);
+    assert_eq!((pool.frames[0].pins, pool.k, tally.refused), (255, 258, 2));
+}
+
+#[test]
+fn drawn_frames_pinned() {
+    // The one draw names frame 1, which is pinned; then all frames count.
+    let records = [(1, R), (2, P), (3, R), (4, R), (5, R)];
+    let (rows, _, pool, _) = run(settings(Rule::Watt, 4), &records);
+    assert_eq!(rows[4], [2, 0, 1, 0]);
+    assert_eq!(pool.sampler, 2_654_435_769);
+}
+
+#[test]
+fn sweep_passes_pinned() {
+    let (rows, _, pool, _) = run(settings(Rule::Clock, 2), &[(1, P), (2, R), (3, R)]);
+    assert_eq!((rows[2], pool.hand), ([2, 1, 2, 0], 0));
+    assert_eq!(pool.frames[0].count, 1);
+}
+
+#[test]
+fn batch_orders() {
+    let written = |rule: Rule, more: &[(u32, u32)]| {
+        let settings = Settings {
+            batch: 3,
+            cap: 3,
+            sample: 16,
+            epoch: 100,
+            ..settings(rule, 3)
+        };
+        let mut records = vec![(9, W), (8, W), (7, W)];
+        records.extend(more);
+        records.push((6, R));
+        run(settings, &records).1
+    };
+    // The least last step; a pinned frame stays behind.
+    assert_eq!(written(Rule::Lru, &[(8, R)]), [9, 7, 8]);
+    assert_eq!(written(Rule::Lru, &[(8, P)]), [9, 7]);
+    // The counts 2 1 1 become 0 0 0, frame 1 leaves, the hand is at frame 2.
+    assert_eq!(written(Rule::Clock, &[(9, R)]), [8, 7, 9]);
+    // The counts 1 3 1 become 0 2 0, frame 0 leaves, the hand is at frame 1.
+    assert_eq!(written(Rule::Clock, &[(8, R), (8, R)]), [9, 7, 8]);
+    // Values that are equal, by frame and not by page.
+    assert_eq!(written(Rule::Watt, &[]), [9, 8, 7]);
+}
+
+// ------------------------------------------------------------- damaged traces
+
+#[test]
+fn trace_refusals() {
+    for order in BOTH {
+        let records = [(1, R), (2, W), (3, P), (1, U)];
+        let plain = encode(&settings(Rule::Lru, 2), order, &records);
+        let refusal = |damage: &dyn Fn(&mut Vec<u8>)| {
+            let mut bytes = plain.clone();
+            damage(&mut bytes);
+            let number = check(&bytes).err().unwrap_or(0);
+            assert_eq!(
+                listed(&bytes) == format!("trace refused {number}\n"),
+                number > 0
+            );
+            number
+        };
+        let with = |at: usize, width: usize, number: u32| {
+            refusal(&|bytes| put(bytes, order, at, width, number))
+        };
+        assert_eq!(refusal(&|_| {}), 0);
+        assert_eq!(refusal(&|bytes| bytes.clear()), 1);
+        assert_eq!(refusal(&|bytes| bytes.truncate(47)), 1);
+        for at in 0..4 {
+            assert_eq!(refusal(&|bytes| bytes[at] ^= 8), 2);
+        }
+        assert_eq!(refusal(&|bytes| bytes[..4].reverse()), 3);
+        for edition in [0, 2, 256] {
+            assert_eq!(with(4, 2, edition), 3);
+        }
+        for n in [8_001, 0x2000_0004, u32::MAX] {
+            assert_eq!(with(8, 4, n), 4);
+        }
+        for n in [0, 3, 5, 8_000] {
+            assert_eq!(with(8, 4, n), 5);
+        }
+        for offset in [0, 47, 49] {
+            assert_eq!(with(12, 4, offset), 5);
+        }
+        for length in [0, 79, 81] {
+            assert_eq!(with(20, 4, length), 5);
+        }
+        for length in [48, 79, 81] {
+            assert_eq!(refusal(&|bytes| bytes.resize(length, 0)), 5);
+        }
+        for at in [6, 7, 44, 45, 46, 47, 54, 55, 78, 79] {
+            assert_eq!(with(at, 1, 1), 6);
+        }
+        for kind in [4, 256, 65_535] {
+            assert_eq!(with(52, 2, kind), 6);
+        }
+        for writes in [0, 2] {
+            assert_eq!(with(16, 4, writes), 7);
+        }
+        for frames in [0, 129] {
+            assert_eq!(with(26, 2, frames), 8);
+        }
+        // Of several, the lowest number.
+        let (mut bytes, mut lowest) = (plain.clone(), 8);
+        for (at, number) in [
+            (26, 0),
+            (16, 9),
+            (44, 1),
+            (20, 0),
+            (8, 8_001),
+            (4, 2),
+            (0, 0),
+        ] {
+            let width = if [4, 26].contains(&at) { 2 } else { 4 };
+            put(&mut bytes, order, at, width, number);
+            assert_eq!(check(&bytes), Err(lowest));
+            lowest -= 1;
+        }
+        assert_eq!(check(&bytes[..47]), Err(lowest));
+    }
+}
+
+#[test]
+fn series_rules() {
+    let plain = settings(Rule::Lru, 1);
+    let other = Settings { seed: 1, ..plain };
+    let item = |settings: &Settings| encode(settings, Order::HighFirst, &reads(&[4]));
+    let items = [
+        vec![7; 48],
+        item(&plain),
+        item(&other),
+        vec![1, 2, 3],
+        item(&plain),
+        vec![],
+        item(&other),
+    ];
+    let mut bytes = Vec::new();
+    for item in &items {
+        bytes.extend((item.len() as u32).to_be_bytes());
+        bytes.extend(item);
+    }
+    bytes.extend([0, 0, 0, 9, 1]);
+    let listing = |row: u32, pool: &str, frame: &str, hits: u32| {
+        format!(
+            "rows 1\n{row} 0 0 0\nwritten 0\npool {pool}\nframes 1\n4 0 0 1 {frame} :\n\
+             hits {hits}\nmisses 1\nevictions 0\nbatches 0\nwritten 0\nrefused 0\n"
+        )
+    };
+    let expected = [
+        "trace refused 2\n".to_string(),
+        listing(1, "1 0 0", "0 : 0", 0),
+        "trace refused 15\n".to_string(),
+        "trace refused 1\n".to_string(),
+        listing(0, "2 0 0", "1 : 1 0", 1),
+        "anew\n".to_string(),
+        listing(1, "1 0 1", "0 : 0", 0),
+    ];
+    assert_eq!(list_series(&bytes, &mut |_| {}), expected.concat());
+}
+
+#[test]
+fn differences_are_found() {
+    assert_eq!(first_difference(b"a\nb\n", b"a\nb\n"), None);
+    for theirs in ["a\nc\n", "a\nb", "a\n"] {
+        assert_eq!(first_difference(b"a\nb\n", theirs.as_bytes()).unwrap().0, 2);
+    }
+    assert_eq!(first_difference(b"", b"a").unwrap().0, 1);
+}
+
+// -------------------------------------------------------- the generated traces
+
+fn sound(pool: &Pool) -> bool {
+    let Pool { settings, k, .. } = *pool;
+    let in_use = pool.frames.iter().take_while(|frame| frame.in_use).count();
+    let (used, unused) = pool.frames.split_at(in_use);
+    let distinct = |number: fn(&Frame) -> u32| {
+        let numbers = used.iter().map(number);
+        numbers.collect::<std::collections::BTreeSet<_>>().len() == in_use
+    };
+    pool.frames.len() == settings.frames as usize
+        && unused.iter().all(|frame| *frame == Frame::default())
+        && distinct(|frame| frame.page)
+        && distinct(|frame| frame.last)
+        && pool.hand < pool.frames.len()
+        && k <= 50_000
+        && used.iter().all(|frame| {
+            let log_sound = |len: usize, epochs: &[u32]| {
+                let (log, rest) = epochs.split_at(len);
+                log.windows(2).all(|pair| pair[0] > pair[1])
+                    && log.iter().all(|&t| t <= frame.last / settings.epoch)
+                    && rest.iter().all(|&t| t == 0)
+            };
+            frame.count <= settings.cap
+                && frame.last < k
+                && log_sound(frame.access.len, &frame.access.epochs)
+                && log_sound(frame.write.len, &frame.write.epochs)
+                && frame.access.len > 0
+                && (frame.write.len > 0 || !frame.dirty)
+        })
+}
+
+/// What is rare and must come up among the traces.
+fn rare(before: &Pool, after: &Pool, step: &Step) -> [(&'static str, bool); 7] {
+    let settings = before.settings;
+    let watt = settings.rule == Rule::Watt;
+    let (frame, batch) = match step {
+        Ok((at, Outcome::Dirty { written, .. })) => (after.frames[*at], &written[..]),
+        Ok((at, _)) => (after.frames[*at], &[][..]),
+        Err(_) => (Frame::default(), &[][..]),
+    };
+    let evicted = [2, 3].contains(&row(step)[0]);
+    let mut drawing = before.clone();
+    let mut drawn_pinned = || before.frames[drawing.draw()].pins > 0;
+    let value = |page: u32| {
+        let mut frames = before.frames.iter();
+        let frame = frames.find(|frame| frame.page == page)?;
+        Some(frame.value(settings.weight, before.k / settings.epoch))
+    };
+    let others = batch.get(1..).unwrap_or_default();
+    let mut counts = before.frames.iter().zip(&after.frames);
+    [
+        (
+            "every drawn frame pinned",
+            watt && evicted && (0..settings.sample).all(|_| drawn_pinned()),
+        ),
+        (
+            "both logs full",
+            frame.access.len == 8 && frame.write.len == 4,
+        ),
+        ("a clock count of 7", frame.count == 7),
+        ("a pin count of 255", frame.pins == 255),
+        ("a batch of 16", batch.len() == 16),
+        (
+            "equal values in a batch",
+            watt && others.windows(2).any(|two| value(two[0]) == value(two[1])),
+        ),
+        (
+            "a sweep past every frame",
+            counts.any(|(old, new)| old.page == new.page && old.count > new.count + 1),
+        ),
+    ]
+}
+
+#[test]
+fn steps_leave_the_pool_sound() {
+    let mut seen = std::collections::BTreeMap::new();
+    for seed in 0..400 {
+        let Ok(trace) = check(&traces::trace(seed)) else {
+            continue;
+        };
+        let mut pool = Pool::fresh(trace.settings);
+        for &(page, kind) in &trace.records {
+            let before = pool.clone();
+            let step = pool.step(page, kind);
+            assert!(sound(&pool), "seed {seed}, {before:?}, {page} {kind:?}");
+            match step {
+                Ok((at, _)) => assert_eq!(pool.frames[at].page, page),
+                Err(_) => assert_eq!(before, pool),
+            }
+            for (name, occurred) in rare(&before, &pool, &step) {
+                *seen.entry(name).or_insert(false) |= occurred;
+            }
+        }
+    }
+    assert!(seen.values().all(|seen| *seen), "{seen:?}");
+}
+
+#[test]
+fn series_reach_the_end() {
+    for seed in 0..12 {
+        let (mut long, mut refused_9, mut refused_15) = (0, false, false);
+        list_series(&traces::series(seed), &mut |result| match result {
+            Ok(replayed) => {
+                long += u32::from(replayed.rows.len() >= 7_000);
+                refused_9 |= replayed.rows.iter().any(|row| row[0] == 109);
+            }
+            Err(refusal) => refused_15 |= *refusal == 15,
+        });
+        assert!(long >= 8 && refused_9 && refused_15, "seed {seed}");
+    }
+}
