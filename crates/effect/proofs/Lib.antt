@@ -1,6 +1,8 @@
 pub mod Ways
-pub mod Pins
-pub mod Left
+pub mod Settled
+pub mod Placed
+pub mod Making
+pub mod Works
 pub mod Dirty
 pub mod Kept
 pub mod Answers

@@ -1,18 +1,20 @@
 // What one record does to a pool: its row, the pages written, and the pool afterwards.
+use pool::Frame;
 use pool::Pool;
 use search::Found;
 use tally::Row;
 ghost use mathlib.Core.Path.{_≡_};
-ghost use mathlib.Core.Bool.{true, false};
-ghost use Prim.Native.Nat.{_+_, _<_, _≤_};
+ghost use mathlib.Core.Bool.{true};
+ghost use Prim.Native.Nat.{_+_, _-_, _<_, _≤_};
 ghost use lib.ListN.{length};
-ghost use Rattle.pool.specs.Pool.{referenceLimit};
-ghost use Rattle.pool.specs.Sound.{soundPool};
-ghost use Rattle.reference.specs.Reference.{Referable};
+ghost use lib.Seq.{sets};
 ghost use Rattle.search.specs.Search.{pick};
+ghost use Rattle.pool.specs.Sound.{soundPool};
+ghost use Rattle.reference.specs.Reference.{withPins};
 ghost use Rattle.tally.specs.Rows.{row, missClean, missDirty};
-ghost use Rattle.effect.specs.Record.{pinLimit, pinsAt, refusal, pinnedWhere, filled, hitOf, leavingOf, evictionOf, missOf, referenceOf, unpinOf, recordOf};
-ghost use Rattle.effect.specs.Effect.{effectOf, Leaves, Plays};
+ghost use Rattle.effect.specs.Record.{recordOf};
+ghost use Rattle.effect.specs.Effect.{Leaves, Plays};
+ghost use Rattle.effect.specs.Entered.{settledHit, settledMiss, settledReference, settledUnpin, settledOf, roomRow, roomPages, roomed, RoomMade, pinsWith, hitFrame, fetchedFrame, enteringFrame, Enterable, entered, workedOf};
 
 // A record's row, and the pool afterwards.
 pub struct Effect {
@@ -20,69 +22,96 @@ pub struct Effect {
     pub pool: Pool,
 }
 
+// Where a victim is wanted: the row, and hand, sampler number and frames then.
+pub struct Room {
+    pub row: Row,
+    pub hand: u16,
+    pub sampler: u32,
+    pub frames: [Frame; 128],
+}
+
 // The greatest pin count of a frame.
 const PIN_LIMIT: u8 = 255;
 
-// A row of a record that is not refused.
-fn row_of(outcome: u32, frame: usize, left: u32, batch: usize) -> Row
-    requires { ⌜ (frame < 128) × (batch < 128) ⌝ }
-    ensures { λ r. ⌜ r ≡ row outcome frame left batch ⌝ }
+// A row whose page that left and batch length have no meaning.
+fn row_at(outcome: u32, frame: usize) -> Row
+    requires { ⌜ frame < 128 ⌝ }
+    ensures { λ r. ⌜ r ≡ row outcome frame 0 0 ⌝ }
 {
     Row {
         outcome: outcome,
         frame: frame as u32,
-        left: left,
-        batch: batch as u32,
-    }
-}
-
-// The row of a refused record, and the pool as it is.
-fn refused(p: Pool, r: u32) -> Effect
-    requires { ⌜ r < 100 ⌝ }
-    ensures { λ e. ⌜ e ≡ effectOf (refusal p r) ⌝ }
-{
-    let w = Row {
-        outcome: tally::REFUSED + r,
-        frame: 0,
         left: 0,
         batch: 0,
-    };
-    Effect { row: w, pool: p }
-}
-
-// One pin more on frame i, where it is asked for.
-fn pin_where(p: Pool, pin: bool, i: usize) -> Pool
-    requires { ⌜ (i < 128) × (pin ≡ true → pinsAt p i < pinLimit) ⌝ }
-    ensures { λ r. ⌜ r ≡ pinnedWhere p pin i ⌝ }
-{
-    if pin {
-        return reference::pin(p, i);
     }
-    p
 }
 
-// A hit in frame i.
-fn on_hit(p: Pool, i: usize, write: bool, pin: bool) -> Effect
-    requires { ⌜ (soundPool p ≡ true) × (p .k < referenceLimit) × (i < 128) ⌝ }
-    ensures { λ r. ⌜ r ≡ effectOf (hitOf p i write pin) ⌝ }
+// A hit in frame i, or refusal 12.
+fn settle_hit(p: Pool, i: usize, pin: bool) -> Row
+    requires { ⌜ i < 128 ⌝ }
+    ensures { λ r. ⌜ (r ≡ settledHit p i pin) × (r .frame < 128) ⌝ }
 {
     let fr = p.frames[i];
     if pin & (fr.pins == PIN_LIMIT) {
-        return refused(p, refusal::PINS_FULL);
+        return tally::refused_row(refusal::PINS_FULL);
     }
-    let q = reference::hit(p, i, write);
-    let r = pin_where(q, pin, i);
-    let w = row_of(tally::HIT, i, 0, 0);
-    Effect { row: w, pool: r }
+    row_at(tally::HIT, i)
 }
 
-// The page is fetched into frame i, and pinned where it is asked for.
-fn fill(p: Pool, i: usize, page: u32, write: bool, pin: bool) -> Pool
-    requires { ⌜ Referable p i ⌝ }
-    ensures { λ r. ⌜ r ≡ filled p i page write pin ⌝ }
+// A miss in the lowest unused frame; with none, a victim is wanted, and nothing is known of it yet.
+fn settle_miss(p: Pool) -> Row
+    requires { ⌜ soundPool p ≡ true ⌝ }
+    ensures { λ r. ⌜ (r ≡ settledMiss p) × (r .frame < 128) ⌝ }
 {
-    let q = reference::fetch(p, i, page, write);
-    pin_where(q, pin, i)
+    let free = reference::lowest_unused(p);
+    let Found::At(i) = free else {
+        return row_at(tally::MISS_CLEAN, 0);
+    };
+    row_at(tally::MISS_UNUSED, i)
+}
+
+// A read, a write or a pin.
+fn settle_reference(p: Pool, page: u32, pin: bool) -> Row
+    requires { ⌜ soundPool p ≡ true ⌝ }
+    ensures { λ r. ⌜ (r ≡ settledReference p page pin) × (r .frame < 128) ⌝ }
+{
+    if pool::REFERENCE_LIMIT <= p.k {
+        return tally::refused_row(refusal::NO_REFERENCE_LEFT);
+    }
+    let at_page = reference::find(p, page);
+    let Found::At(i) = at_page else {
+        return settle_miss(p);
+    };
+    settle_hit(p, i, pin)
+}
+
+// An unpin: no reference.
+fn settle_unpin(p: Pool, page: u32) -> Row
+    ensures { λ r. ⌜ (r ≡ settledUnpin p page) × (r .frame < 128) ⌝ }
+{
+    let at_page = reference::find(p, page);
+    let Found::At(i) = at_page else {
+        return tally::refused_row(refusal::NOT_PINNED);
+    };
+    let fr = p.frames[i];
+    if fr.pins == 0 {
+        return tally::refused_row(refusal::NOT_PINNED);
+    }
+    row_at(tally::UNPINNED, i)
+}
+
+// A record's row; where it is a miss with a clean victim, a victim is wanted and is still to be found.
+pub fn settle(p: Pool, page: u32, kind: u16) -> Row
+    requires { ⌜ soundPool p ≡ true ⌝ }
+    ensures { λ r. ⌜ (r ≡ settledOf p page kind) × (r .frame < 128) ⌝ }
+{
+    match kind {
+        0 => settle_reference(p, page, false),
+        1 => settle_reference(p, page, false),
+        2 => settle_reference(p, page, true),
+        3 => settle_unpin(p, page),
+        4..=65535 => tally::refused_row(refusal::BAD_FIELD),
+    }
 }
 
 fn miss_of(dirty: bool) -> u32
@@ -94,83 +123,153 @@ fn miss_of(dirty: bool) -> u32
     tally::MISS_CLEAN
 }
 
-// Victim v leaves: its batch is written, and the page is fetched into its frame.
-fn leave(p: Pool, v: usize, page: u32, write: bool, pin: bool, out: &mut [u32], at: usize) -> Effect
-    requires { ⌜ Plays p (leavingOf p v page write pin) at (length (now out)) × (p .k < referenceLimit) × (v < 128) ⌝ }
-    ensures { λ r. ⌜ Leaves (leavingOf p v page write pin) at r (now (out .entry)) (now (out .exit)) ⌝ }
+// The row of victim v, whose batch is so long.
+fn leaving_row(fr: Frame, v: usize, batch: usize) -> Row
+    requires { ⌜ (v < 128) × (batch < 128) ⌝ }
+    ensures { λ r. ⌜ r ≡ row (pick (fr .dirty) missDirty missClean) v (fr .page) batch ⌝ }
 {
-    let fr = p.frames[v];
-    let b = batch::write(p, v, out, at);
-    let w = row_of(miss_of(fr.dirty), v, fr.page, b.count);
-    let frames = b.frames;
-    let mut q = p;
-    q.frames = frames;
-    let r = fill(q, v, page, write, pin);
-    Effect { row: w, pool: r }
+    Row {
+        outcome: miss_of(fr.dirty),
+        frame: v as u32,
+        left: fr.page,
+        batch: batch as u32,
+    }
 }
 
-// A miss with no unused frame: the victim's, if there is one.
-fn evict(p: Pool, page: u32, write: bool, pin: bool, out: &mut [u32], at: usize) -> Effect
-    requires { ⌜ Plays p (evictionOf p page write pin) at (length (now out)) × (p .k < referenceLimit) ⌝ }
-    ensures { λ r. ⌜ Leaves (evictionOf p page write pin) at r (now (out .entry)) (now (out .exit)) ⌝ }
+// Where a victim is wanted: it is chosen and its batch written, or the record is refused.
+pub fn make_room(p: Pool, out: &mut [u32], at: usize) -> Room
+    requires { ⌜ (soundPool p ≡ true) × (at + length (roomPages p) ≤ length (now out)) ⌝ }
+    ensures { λ r. ⌜ RoomMade p at r (now (out .entry)) (now (out .exit)) ⌝ }
 {
     let c = victim::choose(p);
+    let frames = c.frames;
     let found = c.found;
     let Found::At(v) = found else {
-        return refused(p, refusal::NO_FRAME);
+        let none = tally::refused_row(refusal::NO_FRAME);
+        return Room {
+            row: none,
+            hand: c.hand,
+            sampler: c.sampler,
+            frames: frames,
+        };
     };
     let mut q = p;
     q.hand = c.hand;
     q.sampler = c.sampler;
-    let frames = c.frames;
     q.frames = frames;
-    leave(q, v, page, write, pin, out, at)
-}
-
-// A miss: the lowest unused frame, else the victim's.
-fn on_miss(p: Pool, page: u32, write: bool, pin: bool, out: &mut [u32], at: usize) -> Effect
-    requires { ⌜ Plays p (missOf p page write pin) at (length (now out)) × (p .k < referenceLimit) ⌝ }
-    ensures { λ r. ⌜ Leaves (missOf p page write pin) at r (now (out .entry)) (now (out .exit)) ⌝ }
-{
-    let free = reference::lowest_unused(p);
-    let Found::At(i) = free else {
-        return evict(p, page, write, pin, out, at);
-    };
-    let w = row_of(tally::MISS_UNUSED, i, 0, 0);
-    let q = fill(p, i, page, write, pin);
-    Effect { row: w, pool: q }
-}
-
-// A read, a write or a pin.
-fn refer(p: Pool, page: u32, write: bool, pin: bool, out: &mut [u32], at: usize) -> Effect
-    requires { ⌜ Plays p (referenceOf p page write pin) at (length (now out)) ⌝ }
-    ensures { λ r. ⌜ Leaves (referenceOf p page write pin) at r (now (out .entry)) (now (out .exit)) ⌝ }
-{
-    if pool::REFERENCE_LIMIT <= p.k {
-        return refused(p, refusal::NO_REFERENCE_LEFT);
+    let b = batch::write(q, v, out, at);
+    let row = leaving_row(frames[v], v, b.count);
+    let cleaned = b.frames;
+    Room {
+        row: row,
+        hand: c.hand,
+        sampler: c.sampler,
+        frames: cleaned,
     }
-    let at_page = reference::find(p, page);
-    let Found::At(i) = at_page else {
-        return on_miss(p, page, write, pin, out, at);
-    };
-    on_hit(p, i, write, pin)
 }
 
-// Unpin: no reference.
-fn unpin(p: Pool, page: u32) -> Effect
-    ensures { λ r. ⌜ r ≡ effectOf (unpinOf p page) ⌝ }
+// One pin more where it is asked for.
+fn pins_with(pin: bool, n: u8) -> u8
+    ensures { λ r. ⌜ r ≡ pinsWith pin n ⌝ }
 {
-    let at_page = reference::find(p, page);
-    let Found::At(i) = at_page else {
-        return refused(p, refusal::NOT_PINNED);
-    };
-    let fr = p.frames[i];
-    if fr.pins == 0 {
-        return refused(p, refusal::NOT_PINNED);
+    if pin & (n != PIN_LIMIT) {
+        return n + 1;
     }
-    let q = reference::unpin(p, i);
-    let w = row_of(tally::UNPINNED, i, 0, 0);
-    Effect { row: w, pool: q }
+    n
+}
+
+fn hit_frame(fr: Frame, kind: u16, cap: u16, k: u32) -> Frame
+    requires { ⌜ cap ≤ 7 ⌝ }
+    ensures { λ r. ⌜ r ≡ hitFrame fr kind cap k ⌝ }
+{
+    let mut g = fr;
+    g.dirty = g.dirty | (kind == 1);
+    g.pins = pins_with(kind == 2, g.pins);
+    g.count = reference::raise(cap, g.count);
+    g.last = k;
+    g
+}
+
+fn fetched_frame(page: u32, kind: u16, k: u32) -> Frame
+    ensures { λ r. ⌜ r ≡ fetchedFrame page kind k ⌝ }
+{
+    Frame {
+        used: true,
+        page: page,
+        dirty: kind == 1,
+        pins: pins_with(kind == 2, 0),
+        count: 1,
+        last: k,
+        accesses: 0,
+        writes: 0,
+    }
+}
+
+fn unpinned_frame(fr: Frame) -> Frame
+    ensures { λ r. ⌜ r ≡ withPins fr (fr .pins - 1) ⌝ }
+{
+    let mut g = fr;
+    if 0 < g.pins {
+        g.pins = g.pins - 1;
+    }
+    g
+}
+
+// The frame of a record with that outcome, but for its logs.
+pub fn entering(fr: Frame, outcome: u32, page: u32, kind: u16, cap: u16, k: u32) -> Frame
+    requires { ⌜ cap ≤ 7 ⌝ }
+    ensures { λ r. ⌜ r ≡ enteringFrame fr outcome page kind cap k ⌝ }
+{
+    match outcome {
+        0 => hit_frame(fr, kind, cap, k),
+        1..=3 => fetched_frame(page, kind, k),
+        4 => unpinned_frame(fr),
+        _ => fr,
+    }
+}
+
+// A record with that row, on a pool that has room for it.
+fn enter(p: Pool, row: Row, page: u32, kind: u16) -> Pool
+    requires { ⌜ Enterable p row ⌝ }
+    ensures { λ r. ⌜ r ≡ entered p row page kind ⌝ }
+{
+    let refers = row.outcome <= tally::MISS_DIRTY;
+    let fetches = (tally::MISS_UNUSED <= row.outcome) & refers;
+    let epoch = pool::now_of(p);
+    let at = row.frame as usize;
+    let mut q = p;
+    let mut fr = entering(q.frames[at], row.outcome, page, kind, q.settings.cap, q.k);
+    fr.accesses = reference::enter_access(&mut q.access, at, fr.accesses, epoch, fetches, refers);
+    fr.writes = reference::enter_write(
+        &mut q.write,
+        at,
+        fr.writes,
+        epoch,
+        fetches,
+        refers & (kind == 1),
+    );
+    q.frames[at] = fr;
+    q.k = q.k + tally::one_if(refers);
+    q
+}
+
+// A record where a victim is wanted.
+fn play_full(p: Pool, page: u32, kind: u16, out: &mut [u32], at: usize) -> Effect
+    requires { ⌜ (soundPool p ≡ true) × (at + length (roomPages p) ≤ length (now out)) ⌝ }
+    ensures { λ r. ⌜ (r ≡ workedOf (roomed p) (roomRow p) page kind) × (now (out .exit) ≡ sets (now (out .entry)) at (roomPages p)) ⌝ }
+{
+    let room = make_room(p, out, at);
+    let frames = room.frames;
+    let mut q = p;
+    q.hand = room.hand;
+    q.sampler = room.sampler;
+    q.frames = frames;
+    let row = room.row;
+    let left = enter(q, row, page, kind);
+    Effect {
+        row: row,
+        pool: left,
+    }
 }
 
 // What a record does to a pool; its written pages go to `out` from `at` on.
@@ -178,11 +277,13 @@ pub fn play(p: Pool, page: u32, kind: u16, out: &mut [u32], at: usize) -> Effect
     requires { ⌜ Plays p (recordOf p page kind) at (length (now out)) ⌝ }
     ensures { λ r. ⌜ Leaves (recordOf p page kind) at r (now (out .entry)) (now (out .exit)) ⌝ }
 {
-    match kind {
-        0 => refer(p, page, false, false, out, at),
-        1 => refer(p, page, true, false, out, at),
-        2 => refer(p, page, false, true, out, at),
-        3 => unpin(p, page),
-        4..=65535 => refused(p, refusal::BAD_FIELD),
+    let row = settle(p, page, kind);
+    if row.outcome == tally::MISS_CLEAN {
+        return play_full(p, page, kind, out, at);
+    }
+    let left = enter(p, row, page, kind);
+    Effect {
+        row: row,
+        pool: left,
     }
 }

@@ -6,6 +6,7 @@ ghost use mathlib.Core.Path.{_≡_};
 ghost use mathlib.Core.Bool.{true};
 ghost use Prim.Native.Nat.{_+_, _*_, _<_, _≤_};
 ghost use lib.ListN.{length};
+ghost use Rattle.search.specs.Search.{pick};
 ghost use Rattle.pool.specs.Sound.{holdsPage};
 ghost use Rattle.reference.specs.Search.{findPage, lowestUnused};
 ghost use Rattle.reference.specs.Logs.{putFront, cleared, grown, stays, lengthWith, logWith};
@@ -79,6 +80,17 @@ fn clear(a: &mut [u32], at: usize, n: usize)
     }
 }
 
+// The n places from `at` on become zero, where it is asked for.
+fn clear_where(on: bool, a: &mut [u32], at: usize, n: usize)
+    requires { ⌜ at + n ≤ length (now a) ⌝ }
+    ensures { λ r. ⌜ now (a .exit) ≡ pick on (cleared (now (a .entry)) at n) (now (a .entry)) ⌝ }
+{
+    if on {
+        clear(a, at, n);
+        return;
+    }
+}
+
 // Whether a log stays as it is: nothing is asked of it, or its newest entry is the epoch already.
 fn kept(on: bool, n: u8, newest: u32, epoch: u32) -> bool
     ensures { λ r. ⌜ r ≡ stays on n newest epoch ⌝ }
@@ -136,8 +148,26 @@ fn clear_write(a: &mut [u32; 512], i: usize)
     clear(a, i * 4, 4);
 }
 
+// Frame i's access log of n entries: cleared where its page is fetched, and the epoch put at its front where it is referred to; its length then.
+pub fn enter_access(a: &mut [u32; 1024], i: usize, n: u8, epoch: u32, fetch: bool, on: bool) -> u8
+    requires { ⌜ i < 128 ⌝ }
+    ensures { λ r. ⌜ (r ≡ lengthWith (pick fetch (cleared (now (a .entry)) (i * 8) 8) (now (a .entry))) (i * 8) 8 n epoch on) × (now (a .exit) ≡ logWith (pick fetch (cleared (now (a .entry)) (i * 8) 8) (now (a .entry))) (i * 8) 8 n epoch on) ⌝ }
+{
+    clear_where(fetch, a, i * 8, 8);
+    put_epoch(a, i * 8, 8, n, epoch, on)
+}
+
+// The write log likewise.
+pub fn enter_write(a: &mut [u32; 512], i: usize, n: u8, epoch: u32, fetch: bool, on: bool) -> u8
+    requires { ⌜ i < 128 ⌝ }
+    ensures { λ r. ⌜ (r ≡ lengthWith (pick fetch (cleared (now (a .entry)) (i * 4) 4) (now (a .entry))) (i * 4) 4 n epoch on) × (now (a .exit) ≡ logWith (pick fetch (cleared (now (a .entry)) (i * 4) 4) (now (a .entry))) (i * 4) 4 n epoch on) ⌝ }
+{
+    clear_where(fetch, a, i * 4, 4);
+    put_epoch(a, i * 4, 4, n, epoch, on)
+}
+
 // A clock count one higher, up to the cap.
-fn raise(cap: u16, n: u8) -> u8
+pub fn raise(cap: u16, n: u8) -> u8
     requires { ⌜ cap ≤ 7 ⌝ }
     ensures { λ r. ⌜ r ≡ raised cap n ⌝ }
 {

@@ -12,7 +12,6 @@ ghost use lib.Seq.{sets};
 ghost use Rattle.refusal.specs.Refusals.{demand, noRoom, otherSettings};
 ghost use Rattle.settings.specs.Settings.{sameSettings};
 ghost use Rattle.trace.specs.Check.{checkOf, traceOf};
-ghost use Rattle.tally.specs.Rows.{refusedRow};
 ghost use Rattle.effect.specs.Record.{dirtyIn};
 ghost use Rattle.replay.specs.Replay.{replayOf, numbersOf};
 ghost use Rattle.replay.specs.Calls.{mayBegin, stepRefusal, StepInto, roomFor, endedAs, endedOf, countsOf, ReplayInto, Ready, RanInto};
@@ -49,26 +48,14 @@ fn step_refusal(p: Pool, t: Tally, kind: u16, places: usize) -> u32
     refusal::demanded(begins, refusal::NOT_SOUND, known)
 }
 
-// The row of a refused call is that of a refused record.
-fn refused_row(r: u32) -> Row
-    requires { ⌜ r ≤ 15 ⌝ }
-    ensures { λ w. ⌜ w ≡ refusedRow r ⌝ }
-{
-    Row {
-        outcome: tally::REFUSED + r,
-        frame: 0,
-        left: 0,
-        batch: 0,
-    }
-}
-
 // One record by itself: its row is its result, and its written pages go to the front of `written`.
 pub fn step(pool: Pool, tally: Tally, page: u32, kind: u16, written: &mut [u32]) -> Stepped
     ensures { λ r. ⌜ StepInto pool tally page kind (now (written .entry)) r (now (written .exit)) ⌝ }
 {
     let r = step_refusal(pool, tally, kind, written.len());
     if r != 0 {
-        let none = refused_row(r);
+        // The row of a refused call is that of a refused record.
+        let none = tally::refused_row(r);
         return Stepped {
             refusal: r,
             row: none,

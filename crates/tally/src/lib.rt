@@ -4,7 +4,7 @@ ghost use Prim.Native.Nat.{_+_, _≤_};
 ghost use lib.ListN.{length};
 ghost use lib.Seq.{sets};
 ghost use Rattle.search.specs.Search.{oneIf};
-ghost use Rattle.tally.specs.Rows.{rowNumbers};
+ghost use Rattle.tally.specs.Rows.{rowNumbers, refusedRow};
 ghost use Rattle.tally.specs.Tally.{countedBy, tallyWithin, zeroTally, Countable};
 
 pub struct Row {
@@ -105,6 +105,19 @@ pub fn raised(t: Tally, row: Row) -> Tally
     let mut next = t;
     raise(&mut next, row);
     next
+}
+
+// The row of a refused record.
+pub fn refused_row(r: u32) -> Row
+    requires { ⌜ r ≤ 100 ⌝ }
+    ensures { λ w. ⌜ w ≡ refusedRow r ⌝ }
+{
+    Row {
+        outcome: REFUSED + r,
+        frame: 0,
+        left: 0,
+        batch: 0,
+    }
 }
 
 // Stores the four numbers of a row at a place.

@@ -1,4 +1,7 @@
-pub mod Steps
+pub mod Records
 pub mod Replacement
 pub mod Clock
 pub mod Watt
+pub mod Settled
+pub mod Limits
+pub mod Ruled

@@ -1,1 +1,1 @@
-// Examples worked by hand, as theorems over the pool's definitions. No code.
+// Examples worked by hand, and what the contracts rule out, as theorems over the definitions. No code.

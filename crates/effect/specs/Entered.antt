@@ -1,0 +1,156 @@
+-- A record as the code works it: its row is settled first, room is made where a victim is wanted, and then the record's frame and its logs
+-- are changed in place. `worked-settled` and `worked-roomed` in proofs/ show that this is `recordOf`.
+use Prim.Native.Nat.{ℕ, zero, suc, _+_, _-_, _*_, _≤_, _<_}
+use mathlib.Core.Path.{_≡_}
+use mathlib.Core.Bool.{Bool, true, false, _&&_, _||_, not}
+use mathlib.Core.List.{List, []}
+use lib.ListN.{length, set}
+use lib.Seq.{sets}
+use lib.Dec.{eqb, leb}
+use Rattle.search.specs.Search.{pick, onFound, oneIf}
+use Rattle.refusal.specs.Refusals.{badField, noReferenceLeft, noFrame, notPinned, pinsFull}
+use Rattle.pool.specs.declared.Frame.{Frame}
+use Rattle.pool.specs.declared.Pool.{Pool}
+use Rattle.pool.specs.Pool.{referenceLimit, accessRoom, writeRoom, frameAt, nowOf}
+use Rattle.reference.specs.Search.{findPage, lowestUnused}
+use Rattle.reference.specs.Logs.{cleared, lengthWith, logWith}
+use Rattle.reference.specs.Reference.{raised, withPins}
+use Rattle.victim.specs.Choice.{leftBy}
+use Rattle.victim.specs.Rules.{choiceOf}
+use Rattle.batch.specs.Batch.{batchOf, cleaned, pagesOf}
+use Rattle.tally.specs.declared.Row.{Row}
+use Rattle.tally.specs.Rows.{row, hit, missUnused, missClean, missDirty, unpinned, refusedRow}
+use Rattle.effect.specs.declared.Room.{Room}
+use Rattle.effect.specs.declared.Effect.{Effect}
+use Rattle.effect.specs.Record.{pinLimit, pinsAt}
+
+module _ (p : Pool) where
+  -- a hit in frame i
+  abbrev pub settledHit : ℕ → Bool → Row
+  settledHit i pin = pick (pin && eqb (pinsAt p i) pinLimit) (refusedRow pinsFull) (row hit i 0 0)
+
+  -- a miss: in an unused frame, or a victim is wanted
+  abbrev pub settledMiss : Row
+  settledMiss = onFound (lowestUnused p) (λ i. row missUnused i 0 0) (row missClean 0 0 0)
+
+  -- a reference
+  unfoldable pub settledReference : ℕ → Bool → Row
+  settledReference page pin = pick (leb referenceLimit (p .k)) (refusedRow noReferenceLeft) (onFound (findPage (p .frames) page) (λ i. settledHit i pin) settledMiss)
+
+  -- an unpin
+  unfoldable pub settledUnpin : ℕ → Row
+  settledUnpin page = onFound (findPage (p .frames) page) (λ i. pick (eqb (pinsAt p i) 0) (refusedRow notPinned) (row unpinned i 0 0)) (refusedRow notPinned)
+
+  -- the row, but where a victim is wanted
+  unfoldable pub settledOf : ℕ → ℕ → Row
+  settledOf page zero = settledReference page false
+  settledOf page (suc zero) = settledReference page false
+  settledOf page (suc (suc zero)) = settledReference page true
+  settledOf page (suc (suc (suc zero))) = settledUnpin page
+  settledOf page (suc (suc (suc (suc kind)))) = refusedRow badField
+
+  -- where a victim is wanted: the row
+  unfoldable pub roomRow : Row
+  roomRow = onFound (choiceOf p .found) (λ v. row (pick (frameAt (choiceOf p .frames) v .dirty) missDirty missClean) v (frameAt (choiceOf p .frames) v .page) (length (batchOf (leftBy p (choiceOf p)) v))) (refusedRow noFrame)
+
+  -- the pages written
+  unfoldable pub roomPages : List ℕ
+  roomPages = onFound (choiceOf p .found) (λ v. pagesOf (choiceOf p .frames) (batchOf (leftBy p (choiceOf p)) v)) []
+
+  -- and the frames then
+  unfoldable pub roomFrames : List Frame
+  roomFrames = onFound (choiceOf p .found) (λ v. cleaned (choiceOf p .frames) (batchOf (leftBy p (choiceOf p)) v)) (choiceOf p .frames)
+
+  -- the pool with room
+  abbrev pub roomed : Pool
+  roomed = record { settings = p .settings; k = p .k; hand = choiceOf p .hand; sampler = choiceOf p .sampler; frames = roomFrames; access = p .access; write = p .write }
+
+-- what making room leaves
+pub record RoomMade (p : Pool) (at : ℕ) (r : Room) (before after : List ℕ) : Type 0 where
+  pub row : r .row ≡ roomRow p
+  pub hand : r .hand ≡ choiceOf p .hand
+  pub sampler : r .sampler ≡ choiceOf p .sampler
+  pub frames : r .frames ≡ roomFrames p
+  pub list : after ≡ sets before at (roomPages p)
+  pub frame : r .row .frame < 128
+
+-- one pin more where it is asked for and the count is not full
+abbrev pub pinsWith : Bool → ℕ → ℕ
+pinsWith pin n = pick (pin && not (eqb n pinLimit)) (n + 1) n
+
+-- a frame that is hit, but for its logs
+abbrev pub hitFrame : Frame → ℕ → ℕ → ℕ → Frame
+hitFrame fr kind cap k = record {
+  used = fr .used;
+  page = fr .page;
+  dirty = fr .dirty || eqb kind 1;
+  pins = pinsWith (eqb kind 2) (fr .pins);
+  count = raised cap (fr .count);
+  last = k;
+  accesses = fr .accesses;
+  writes = fr .writes;
+}
+
+-- a frame with a page that is fetched, but for its logs
+abbrev pub fetchedFrame : ℕ → ℕ → ℕ → Frame
+fetchedFrame page kind k = record { used = true; page = page; dirty = eqb kind 1; pins = pinsWith (eqb kind 2) 0; count = 1; last = k; accesses = 0; writes = 0 }
+
+-- by outcome: a hit, a miss, an unpin, or a refusal
+abbrev pub byOutcome {ℓ} : {A : Type ℓ} → ℕ → A → A → A → A → A
+byOutcome zero hit miss unpin none = hit
+byOutcome (suc zero) hit miss unpin none = miss
+byOutcome (suc (suc zero)) hit miss unpin none = miss
+byOutcome (suc (suc (suc zero))) hit miss unpin none = miss
+byOutcome (suc (suc (suc (suc zero)))) hit miss unpin none = unpin
+byOutcome (suc (suc (suc (suc (suc n))))) hit miss unpin none = none
+
+-- the frame of a record with that outcome, but for its logs
+unfoldable pub enteringFrame : Frame → ℕ → ℕ → ℕ → ℕ → ℕ → Frame
+enteringFrame fr outcome page kind cap k = byOutcome outcome (hitFrame fr kind cap k) (fetchedFrame page kind k) (withPins fr (fr .pins - 1)) fr
+
+-- an accepted reference
+abbrev pub refers : ℕ → Bool
+refers outcome = leb outcome missDirty
+
+-- whose page is fetched
+abbrev pub fetches : ℕ → Bool
+fetches outcome = leb missUnused outcome && leb outcome missDirty
+
+-- a log's places, cleared where its page is fetched
+abbrev pub clearedWhere : Bool → List ℕ → ℕ → ℕ → List ℕ
+clearedWhere on a at n = pick on (cleared a at n) a
+
+-- a frame with logs of other lengths
+abbrev pub withLengths : Frame → ℕ → ℕ → Frame
+withLengths fr n m = record { used = fr .used; page = fr .page; dirty = fr .dirty; pins = fr .pins; count = fr .count; last = fr .last; accesses = n; writes = m }
+
+-- frame i and its logs, changed in place
+abbrev pub enteredAt : Pool → ℕ → Frame → Bool → Bool → Bool → Pool
+enteredAt p i fr fetch refer write = record {
+  settings = p .settings;
+  k = p .k + oneIf refer;
+  hand = p .hand;
+  sampler = p .sampler;
+  frames = set (p .frames) i (withLengths fr
+      (lengthWith (clearedWhere fetch (p .access) (i * accessRoom) accessRoom) (i * accessRoom) accessRoom (fr .accesses) (nowOf p) refer)
+      (lengthWith (clearedWhere fetch (p .write) (i * writeRoom) writeRoom) (i * writeRoom) writeRoom (fr .writes) (nowOf p) write));
+  access = logWith (clearedWhere fetch (p .access) (i * accessRoom) accessRoom) (i * accessRoom) accessRoom (fr .accesses) (nowOf p) refer;
+  write = logWith (clearedWhere fetch (p .write) (i * writeRoom) writeRoom) (i * writeRoom) writeRoom (fr .writes) (nowOf p) write;
+}
+
+-- a record with that row
+unfoldable pub entered : Pool → Row → ℕ → ℕ → Pool
+entered p w page kind =
+    enteredAt p (w .frame) (enteringFrame (frameAt (p .frames) (w .frame)) (w .outcome) page kind (p .settings .cap) (p .k))
+    (fetches (w .outcome)) (refers (w .outcome)) (refers (w .outcome) && eqb kind 1)
+
+-- what entering asks: a frame, an epoch length and a cap in range, and that k can rise
+pub record Enterable (p : Pool) (w : Row) : Type 0 where
+  pub frame : w .frame < 128
+  pub epoch : 0 < p .settings .epoch
+  pub cap : p .settings .cap ≤ 7
+  pub few : p .k ≤ referenceLimit
+
+-- the row, and the pool when its record has been entered
+abbrev pub workedOf : Pool → Row → ℕ → ℕ → Effect
+workedOf p w page kind = record { row = w; pool = entered p w page kind }
