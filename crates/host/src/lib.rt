@@ -78,7 +78,7 @@ pub extern "C" fn hitchyawl_counts(bytes: &[u8], out: &mut [u8]) -> u32
 {
     let c = trace::check(bytes);
     match c {
-        Checked::Refused(r) => r,
+        Checked::Refused(number) => number,
         Checked::Accepted(summary) => counts_accepted(bytes, summary, out),
     }
 }
