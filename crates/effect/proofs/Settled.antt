@@ -60,17 +60,15 @@ module _ (p : Pool) (w : Row) where
     unpin-held i a t l e = settles w (row unpinned i 0 0) (settledUnpin p page) e l (rw (a, t))
 
     -- the kinds
-    pub settle-read : (kind : ℕ) → kind ≡ 0 → Settles w (settledReference p page false) → Settles w (settledOf p page kind)
+    reference-kind : (kind : ℕ) → kind ≤ 2 → settledReference p page (eqb kind 2) ≡ settledOf p page kind
     unfolding settledOf
-    settle-read kind k e = (e .0 ∙ rw k, e .1)
+    reference-kind zero l = refl
+    reference-kind (suc zero) l = refl
+    reference-kind (suc (suc zero)) l = refl
+    reference-kind (suc (suc (suc kind))) l = absurd (omega arith)
 
-    pub settle-write : (kind : ℕ) → kind ≡ 1 → Settles w (settledReference p page false) → Settles w (settledOf p page kind)
-    unfolding settledOf
-    settle-write kind k e = (e .0 ∙ rw k, e .1)
-
-    pub settle-pin : (kind : ℕ) → kind ≡ 2 → Settles w (settledReference p page true) → Settles w (settledOf p page kind)
-    unfolding settledOf
-    settle-pin kind k e = (e .0 ∙ rw k, e .1)
+    pub settle-reference : (kind : ℕ) → kind ≤ 2 → Settles w (settledReference p page (eqb kind 2)) → Settles w (settledOf p page kind)
+    settle-reference kind l e = (e .0 ∙ reference-kind kind l, e .1)
 
     pub settle-unpin : (kind : ℕ) → kind ≡ 3 → Settles w (settledUnpin p page) → Settles w (settledOf p page kind)
     unfolding settledOf

@@ -190,3 +190,32 @@ pub full-is : (p : Pool) (r : Room) (at page kind : ℕ) (q : Pool) (before afte
     → q ≡ entered (record { settings = p .settings; k = p .k; hand = r .hand; sampler = r .sampler; frames = r .frames; access = p .access; write = p .write }) (r .row) page kind
     → _≡_ {A = Effect} (record { row = r .row; pool = q }) (workedOf (roomed p) (roomRow p) page kind)
 full-is p r at page kind q before after m h = rw (h, m .row, m .hand, m .sampler, m .frames)
+
+-- a pool given the room that was made
+abbrev pub withRoom : Pool → Room → Pool
+withRoom p r = record { settings = p .settings; k = p .k; hand = r .hand; sampler = r .sampler; frames = r .frames; access = p .access; write = p .write }
+
+-- a pool q and a row such that entering the row gives what the record does to p
+pub record Prepared (p q : Pool) (w : Row) (page kind : ℕ) : Type 0 where
+  pub row : w ≡ recordOf p page kind .row
+  pub pool : entered q w page kind ≡ recordOf p page kind .pool
+  pub able : Enterable q w
+
+module _ (p : Pool) (s : soundPool p ≡ true) (z : Sized p) (page kind : ℕ) where
+  pub prepared-settled : (w : Row) → w ≡ settledOf p page kind → w .frame < 128 → (w .outcome ≡ missClean → ⊥) → Prepared p p w page kind
+  prepared-settled w e l ne =
+      let k = worked-settled p (told p s) z page kind (λ c. ne (ap (λ (x : Row). x .outcome) e ∙ c)) in
+      record { row = e ∙ k .row; pool = ap (λ (x : Row). entered p x page kind) e ∙ k .pool; able = enterable p w s l }
+
+  pub prepared-roomed : (w : Row) (r : Room) (at : ℕ) (before after : List ℕ) → w ≡ settledOf p page kind → w .outcome ≡ missClean → RoomMade p at r before after → Prepared p (withRoom p r) (r .row) page kind
+  prepared-roomed w r at before after e c m =
+      let k = worked-roomed p (told p s) z page kind (sym (ap (λ (x : Row). x .outcome) e) ∙ c) in
+      let a = enterable p (r .row) s (m .frame) in
+      record {
+        row = m .row ∙ k .row;
+        pool = room-entered r at before after m ∙ k .pool;
+        able = record { frame = a .frame; epoch = a .epoch; cap = a .cap; few = a .few };
+      }
+    where
+      room-entered : (r : Room) (at : ℕ) (before after : List ℕ) → RoomMade p at r before after → entered (withRoom p r) (r .row) page kind ≡ entered (roomed p) (roomRow p) page kind
+      room-entered r at before after m = rw (m .row, m .hand, m .sampler, m .frames)

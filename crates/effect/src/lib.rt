@@ -106,9 +106,7 @@ pub fn settle(p: Pool, page: u32, kind: u16) -> Row
     ensures { λ r. ⌜ (r ≡ settledOf p page kind) × (r .frame < 128) ⌝ }
 {
     match kind {
-        0 => settle_reference(p, page, false),
-        1 => settle_reference(p, page, false),
-        2 => settle_reference(p, page, true),
+        0..=2 => settle_reference(p, page, kind == 2),
         3 => settle_unpin(p, page),
         4..=65535 => tally::refused_row(refusal::BAD_FIELD),
     }

@@ -60,6 +60,9 @@ module _ (p : Pool) (t : Tally) (s : List ℕ) (h : Summary) (z : Sized p) (y : 
     pub still-sound : soundPool q ≡ true
     still-sound = subst (λ (x : Pool). soundPool x ≡ true) (sym (c .pool)) (made (replayTo p t trace i .pool) (going p t trace sound z within i .sound))
 
+    pub still-sized : Sized q
+    still-sized = subst Sized (sym (c .pool)) (going p t trace sound z within i .sized)
+
     written-short : length (recordOf q (rec .page) (rec .kind) .written) ≤ 16
     written-short = let f = doing-few p t trace sound z within i in let x = ap (λ (d : Did). length (d .written)) played in omega arith
 

@@ -133,7 +133,8 @@ fn run(
     }
 }
 
-// Every record of an accepted trace, counted only: the pages of one batch are written over those of the one before.
+// Every record of an accepted trace, counted only: the pages of one batch are written over those of the one before. It works
+// as `effect::play` does, on its own pool in place: a pool handed over and back is a copy of it each time.
 fn count(pool: Pool, tally: Tally, bytes: &[u8], summary: Summary) -> Ended
     requires { ⌜ Ready pool tally (now bytes) summary ⌝ }
     ensures { λ r. ⌜ r ≡ endedOf 0 pool tally (replayOf pool tally (traceOf (now (bytes .entry)))) ⌝ }
@@ -145,10 +146,40 @@ fn count(pool: Pool, tally: Tally, bytes: &[u8], summary: Summary) -> Ended
     let mut i: usize = 0;
     while i < n {
         let record = trace::record_at(bytes, summary, i);
-        let e = effect::play(q, record.page, record.kind, &mut scratch, 0);
-        let row = e.row;
+        let mut row = effect::settle(q, record.page, record.kind);
+        if row.outcome == tally::MISS_CLEAN {
+            let room = effect::make_room(q, &mut scratch, 0);
+            let frames = room.frames;
+            q.hand = room.hand;
+            q.sampler = room.sampler;
+            q.frames = frames;
+            row = room.row;
+        }
+        let refers = row.outcome <= tally::MISS_DIRTY;
+        let fetches = (tally::MISS_UNUSED <= row.outcome) & refers;
+        let writes = refers & (record.kind == 1);
+        let epoch = pool::now_of(q);
+        let at = row.frame as usize;
+        let mut fr = effect::entering(
+            q.frames[at],
+            row.outcome,
+            record.page,
+            record.kind,
+            q.settings.cap,
+            q.k,
+        );
+        fr.accesses = reference::enter_access(
+            &mut q.access,
+            at,
+            fr.accesses,
+            epoch,
+            fetches,
+            refers,
+        );
+        fr.writes = reference::enter_write(&mut q.write, at, fr.writes, epoch, fetches, writes);
+        q.frames[at] = fr;
+        q.k = q.k + tally::one_if(refers);
         t = tally::counted(t, row);
-        q = e.pool;
         i += 1;
     }
     Ended {

@@ -1,5 +1,5 @@
 use native.Mathlib.Omega.{arith}
-use Rattle.effect.proofs.Settled.{settle-read, settle-write, settle-pin, settle-unpin, settle-bad}
+use Rattle.effect.proofs.Settled.{settle-reference, settle-unpin, settle-bad}
 use borrow.Author.Needs.{needs}
 use Rattle.effect.proofs.settle.Statement.{statement}
 use Rattle.effect.proofs.settle.Tie as tie
@@ -11,10 +11,6 @@ settle-spec =
     (λ c κs. search needs)
     (λ c κs. search needs)
     (λ c κs. search needs)
-    (λ c κs. search needs)
-    (λ c κs. search needs)
-    (λ c. settle-read _ _ _ _ (c .before .match .keys1) (c .settle-reference .ensures))
-    (λ c. settle-write _ _ _ _ (c .before .match .keys2) (c .settle-reference2 .ensures))
-    (λ c. settle-pin _ _ _ _ (c .before .match .keys3) (c .settle-reference3 .ensures))
-    (λ c. settle-unpin _ _ _ _ (c .before .match .keys4) (c .settle-unpin .ensures))
-    (λ c. settle-bad _ _ _ (c .before .before .args .kind) (omega arith) (c .refused-row .ensures)))
+    (λ c. settle-unpin _ _ _ _ (c .before .match .keys1) (c .settle-unpin .ensures))
+    (λ c. settle-reference _ _ _ (c .before .before .before .args .kind) (omega arith) (c .settle-reference .ensures))
+    (λ c. settle-bad _ _ _ (c .before .before .before .args .kind) (omega arith) (c .refused-row .ensures)))
