@@ -13,32 +13,56 @@ use borrow.Author.Tests.{eqb-true, eqb-false, lt-ltb, ltb-true}
 use Rattle.search.specs.Search.{pick}
 use Rattle.search.proofs.Every.{same-test}
 use Rattle.worth.specs.declared.Fraction.{Fraction}
-use Rattle.worth.specs.Value.{fraction, lessFraction}
+use Rattle.worth.specs.Value.{fraction, lessFraction, worthOf, valueOf}
 use Rattle.worth.specs.Sizes.{Small}
+use Rattle.settings.specs.declared.Settings.{Settings}
 use Rattle.settings.proofs.Laws.{ranges}
+use Rattle.pool.specs.declared.Frame.{Frame}
 use Rattle.pool.specs.declared.Pool.{Pool}
-use Rattle.pool.specs.Pool.{frameAt}
+use Rattle.pool.specs.Pool.{frameAt, nowOf}
 use Rattle.pool.proofs.Sound.{Sound}
 use Rattle.victim.specs.Watt.{valueAt, lessValue}
 use Rattle.victim.specs.Rules.{byRule}
 use Rattle.victim.specs.Lru.{older}
 use Rattle.victim.proofs.Rules.{by-rule, rule-rest}
-use Rattle.victim.proofs.watt.Values.{value-fits}
+use Rattle.victim.proofs.watt.Values.{fitting, value-fits}
 use Rattle.batch.specs.Batch.{distance, sooner, batchOrder, waits}
-use Rattle.batch.specs.Ranks.{rankOf, rankWhere, RankedTo}
+use Rattle.batch.specs.Ranks.{rankOf, rankFrom, Rankable, rankWhere, RankedTo}
 
--- the three ways to a rank
-pub rank-first : (p : Pool) (i : ℕ) → p .settings .rule ≡ 0 → fraction (frameAt (p .frames) i .last) 1 ≡ rankOf p i
-unfolding rankOf
-rank-first p i e = rw e
+-- the three ways to a rank, from the parts that it needs
+module _ (s : Settings) (hand : ℕ) (fr : Frame) (i : ℕ) (access write : List ℕ) (epoch : ℕ) where
+  pub rank-first : s .rule ≡ 0 → fraction (fr .last) 1 ≡ rankFrom s hand fr i access write epoch
+  unfolding rankFrom
+  rank-first e = rw e
 
-pub rank-second : (p : Pool) (i d : ℕ) → p .settings .rule ≡ 1 → d ≡ distance p i → fraction (frameAt (p .frames) i .count * 128 + d) 1 ≡ rankOf p i
-unfolding rankOf
-rank-second p i d e h = rw (e, h)
+  pub rank-second : (d : ℕ) → s .rule ≡ 1 → d ≡ (i + s .frames - hand) % s .frames → fraction (fr .count * 128 + d) 1 ≡ rankFrom s hand fr i access write epoch
+  unfolding rankFrom
+  rank-second d e h = rw (e, h)
 
-pub rank-third : (p : Pool) (i : ℕ) (v : Fraction) → 2 ≤ p .settings .rule → v ≡ valueAt p i → v ≡ rankOf p i
-unfolding rankOf
-rank-third p i v l h = h ∙ sym (rule-rest (p .settings .rule) (fraction (frameAt (p .frames) i .last) 1) (fraction (frameAt (p .frames) i .count * 128 + distance p i) 1) (valueAt p i) l)
+  pub rank-third : (v : Fraction) → 2 ≤ s .rule → v ≡ valueOf (worthOf access (i * 8) (fr .accesses) epoch) (worthOf write (i * 4) (fr .writes) epoch) (s .weight)
+      → v ≡ rankFrom s hand fr i access write epoch
+  unfolding rankFrom
+  rank-third v l h =
+      h ∙ sym (rule-rest (s .rule) (fraction (fr .last) 1) (fraction (fr .count * 128 + (i + s .frames - hand) % s .frames) 1)
+      (valueOf (worthOf access (i * 8) (fr .accesses) epoch) (worthOf write (i * 4) (fr .writes) epoch) (s .weight)) l)
+
+-- a sound pool's parts are in their bounds
+pub rankable : (p : Pool) (i epoch : ℕ) → Sound p → i < 128 → epoch ≡ nowOf p → Rankable (p .settings) (p .hand) (frameAt (p .frames) i) i epoch
+rankable p i epoch s l e =
+    let h = fitting p i epoch s l e in record {
+      frame = l;
+      frames = ranges (p .settings) (s .settings) .frames .1;
+      low = s .hand;
+      accesses = h .1;
+      writes = h .2;
+      weight = h .3;
+      young = h .4;
+    }
+
+-- and the rank from them is frame i's
+rank-is : (p : Pool) (i epoch : ℕ) → epoch ≡ nowOf p → rankFrom (p .settings) (p .hand) (frameAt (p .frames) i) i (p .access) (p .write) epoch ≡ rankOf p i
+unfolding rankFrom rankOf valueAt
+rank-is p i epoch e = rw e
 
 pub remainder-small : (x f : ℕ) → 0 < f → f ≤ 128 → x % f < 128
 remainder-small x f h l = let q = mod-lt x h in omega arith
@@ -112,9 +136,10 @@ module _ (p : Pool) (v : ℕ) where
   pub ranked-none : (ws : List Bool) (rs : List Fraction) → RankedTo p v 0 ws rs
   ranked-none ws rs = record { waiting = λ i l. absurd (omega arith); ranks = λ i l. absurd (omega arith) }
 
-  pub ranked-more : (ws : List Bool) (rs : List Fraction) (n : ℕ) (r : Fraction) → length ws ≡ 128 → length rs ≡ 128 → n < 128 → RankedTo p v n ws rs → r ≡ rankWhere (waits p v n) p n
+  pub ranked-more : (ws : List Bool) (rs : List Fraction) (n : ℕ) (r : Fraction) (epoch : ℕ) → length ws ≡ 128 → length rs ≡ 128 → n < 128 → RankedTo p v n ws rs → epoch ≡ nowOf p
+      → r ≡ pick (waits p v n) (rankFrom (p .settings) (p .hand) (frameAt (p .frames) n) n (p .access) (p .write) epoch) (fraction 0 1)
       → RankedTo p v (n + 1) (set ws n (waits p v n)) (set rs n r)
-  ranked-more ws rs n r x y l k h = record {
+  ranked-more ws rs n r epoch x y l k e g = let h : r ≡ rankWhere (waits p v n) p n = g ∙ ap (λ (a : Fraction). pick (waits p v n) a (fraction 0 1)) (rank-is p n epoch e) in record {
     waiting = λ i m. at ws i (waits p v n) false (λ b. b ≡ waits p v i) (rw x l) m (λ q. ap (waits p v) (sym q)) (k .waiting i);
     ranks = λ i m. at rs i r (fraction 0 0) (λ b. b ≡ rankWhere (waits p v i) p i) (rw y l) m (λ q. h ∙ ap (λ (j : ℕ). rankWhere (waits p v j) p j) (sym q)) (k .ranks i);
   }

@@ -2,19 +2,20 @@
 use pool::Frame;
 use pool::Pool;
 use search::Found;
+use settings::Settings;
 use worth::Fraction;
 ghost use mathlib.Core.Path.{_≡_};
 ghost use mathlib.Core.Bool.{true, false};
 ghost use Prim.Native.Nat.{ℕ, _+_, _-_, _%_, _<_, _≤_};
 ghost use lib.ListN.{length, getD};
-ghost use Rattle.search.specs.Search.{leastBelow};
-ghost use Rattle.worth.specs.Value.{lessFraction};
+ghost use Rattle.search.specs.Search.{pick, leastBelow};
+ghost use Rattle.worth.specs.Value.{fraction, lessFraction};
 ghost use Rattle.worth.specs.Sizes.{Small};
 ghost use Rattle.pool.specs.Pool.{nowOf, frameAt};
 ghost use Rattle.pool.specs.Sound.{soundPool};
 ghost use Rattle.batch.specs.Batch.{cleanFrame};
 ghost use Rattle.batch.specs.Written.{othersBy, Wrote, Batchable, WrittenBy};
-ghost use Rattle.batch.specs.Ranks.{rankOf, rankWhere, rankAt, RankedTo};
+ghost use Rattle.batch.specs.Ranks.{Rankable, rankFrom, rankAt, RankedTo};
 
 // What a batch leaves: the frames, and how many pages were written.
 pub struct Written {
@@ -36,33 +37,49 @@ fn distance_up(i: usize, f: u16, hand: u16) -> u64
     ((i as u64) + (f as u64) - (hand as u64)) % (f as u64)
 }
 
-// Frame i's place in the batch order, as a fraction under every rule.
-fn rank(p: Pool, i: usize, epoch: u32) -> Fraction
-    requires { ⌜ (soundPool p ≡ true) × (i < 128) × (epoch ≡ nowOf p) ⌝ }
-    ensures { λ r. ⌜ r ≡ rankOf p i ⌝ }
+// Frame i's place in the batch order, as a fraction under every rule: found from parts of the pool, which itself is not handed over.
+fn rank<'a>(
+    s: Settings,
+    hand: u16,
+    fr: Frame,
+    i: usize,
+    access: &'a [u32; 1024],
+    write: &'a [u32; 512],
+    epoch: u32,
+) -> Fraction
+    requires { ⌜ Rankable s hand fr i epoch ⌝ }
+    ensures { λ r. ⌜ r ≡ rankFrom s hand fr i (now (access .entry)) (now (write .entry)) epoch ⌝ }
 {
-    let fr = p.frames[i];
-    let rule = p.settings.rule;
+    let rule = s.rule;
     match rule {
         0 => Fraction {
             num: fr.last as u64,
             den: 1,
         },
         1 => Fraction {
-            num: (fr.count as u64) * 128 + distance_up(i, p.settings.frames, p.hand),
+            num: (fr.count as u64) * 128 + distance_up(i, s.frames, hand),
             den: 1,
         },
-        _ => victim::watt::value_at(p, i, epoch),
+        _ => victim::watt::value_of(fr, access, write, i, s.weight, epoch),
     }
 }
 
 // The rank where it is asked for: a value is dear.
-fn rank_where(on: bool, p: Pool, i: usize, epoch: u32) -> Fraction
-    requires { ⌜ (soundPool p ≡ true) × (i < 128) × (epoch ≡ nowOf p) ⌝ }
-    ensures { λ r. ⌜ r ≡ rankWhere on p i ⌝ }
+fn rank_where<'a>(
+    on: bool,
+    s: Settings,
+    hand: u16,
+    fr: Frame,
+    i: usize,
+    access: &'a [u32; 1024],
+    write: &'a [u32; 512],
+    epoch: u32,
+) -> Fraction
+    requires { ⌜ Rankable s hand fr i epoch ⌝ }
+    ensures { λ r. ⌜ r ≡ pick on (rankFrom s hand fr i (now (access .entry)) (now (write .entry)) epoch) (fraction 0 1) ⌝ }
 {
     if on {
-        return rank(p, i, epoch);
+        return rank(s, hand, fr, i, access, write, epoch);
     }
     Fraction { num: 0, den: 1 }
 }
@@ -80,7 +97,7 @@ fn rank_all(p: Pool, v: usize, epoch: u32) -> Ranked
         let fr = p.frames[i];
         let waits = (fr.dirty & (fr.pins == 0)) & (v != i);
         waiting[i] = waits;
-        ranks[i] = rank_where(waits, p, i, epoch);
+        ranks[i] = rank_where(waits, p.settings, p.hand, fr, i, &p.access, &p.write, epoch);
         i += 1;
     }
     Ranked {

@@ -159,7 +159,8 @@ fn say_value(p: Pool, i: usize) {
     if pool::check(p) == 0 {
         if i < 128 {
             let epoch = pool::now_of(p);
-            let v = victim::watt::value_at(p, i, epoch);
+            let fr = p.frames[i];
+            let v = victim::watt::value_of(fr, &p.access, &p.write, i, p.settings.weight, epoch);
             say(b"value");
             say_number(v.num);
             say_number(v.den);

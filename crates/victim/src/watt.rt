@@ -1,18 +1,19 @@
 // WATT: the drawn unpinned frame of least value.
 use super::Choice;
+use pool::Frame;
 use pool::Pool;
 use search::Found;
 use worth::Fraction;
 ghost use mathlib.Core.Path.{_≡_};
 ghost use mathlib.Core.Bool.{true, false};
-ghost use Prim.Native.Nat.{ℕ, _%_, _<_, _≤_};
+ghost use Prim.Native.Nat.{ℕ, _*_, _%_, _<_, _≤_};
 ghost use lib.ListN.{getD};
 ghost use Rattle.search.specs.Search.{onFound, among};
-ghost use Rattle.worth.specs.Value.{lessFraction};
+ghost use Rattle.worth.specs.Value.{lessFraction, worthOf, valueOf};
 ghost use Rattle.worth.specs.Sizes.{Small};
 ghost use Rattle.pool.specs.Pool.{nowOf};
 ghost use Rattle.pool.specs.Sound.{soundPool};
-ghost use Rattle.victim.specs.Watt.{nextSampler, samplerAfter, draws, valueAt, leastValue, drawnFrame, wattVictim, wattChoice};
+ghost use Rattle.victim.specs.Watt.{nextSampler, samplerAfter, draws, leastValue, drawnFrame, wattVictim, wattChoice};
 
 // The sampler number after some draws, and which frames they named.
 struct Draws {
@@ -56,15 +57,21 @@ fn drawn(sampler: u32, f: u16, sample: u16) -> Draws
     }
 }
 
-// The value of frame i.
-pub fn value_at(p: Pool, i: usize, epoch: u32) -> Fraction
-    requires { ⌜ (soundPool p ≡ true) × (i < 128) × (epoch ≡ nowOf p) ⌝ }
-    ensures { λ r. ⌜ r ≡ valueAt p i ⌝ }
+// The value of frame i, found from the frame and the logs of all frames: the pool itself is not handed over.
+pub fn value_of<'a>(
+    fr: Frame,
+    access: &'a [u32; 1024],
+    write: &'a [u32; 512],
+    i: usize,
+    weight: u16,
+    epoch: u32,
+) -> Fraction
+    requires { ⌜ (i < 128) × (fr .accesses ≤ 8) × (fr .writes ≤ 4) × (weight ≤ 16) × (epoch ≤ 50000) ⌝ }
+    ensures { λ r. ⌜ r ≡ valueOf (worthOf (now (access .entry)) (i * 8) (fr .accesses) epoch) (worthOf (now (write .entry)) (i * 4) (fr .writes) epoch) weight ⌝ }
 {
-    let fr = p.frames[i];
-    let access = worth::log_worth(&p.access, i * 8, fr.accesses as usize, epoch);
-    let write = worth::log_worth(&p.write, i * 4, fr.writes as usize, epoch);
-    worth::value(access, write, p.settings.weight)
+    let accessed = worth::log_worth(access, i * 8, fr.accesses as usize, epoch);
+    let written = worth::log_worth(write, i * 4, fr.writes as usize, epoch);
+    worth::value(accessed, written, weight)
 }
 
 // Whether a frame of value v takes the place of the best so far, whose value is low: on a tie it does not.
@@ -90,7 +97,7 @@ fn least(p: Pool, marks: [bool; 128], epoch: u32) -> Found
     while i < f {
         let fr = p.frames[i];
         if marks[i] & (fr.pins == 0) {
-            let v = value_at(p, i, epoch);
+            let v = value_of(fr, &p.access, &p.write, i, p.settings.weight, epoch);
             if beats(v, best, low) {
                 best = Found::At(i);
                 low = v;

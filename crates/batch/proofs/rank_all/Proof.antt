@@ -8,7 +8,7 @@ use Rattle.pool.specs.Pool.{nowOf}
 use Rattle.pool.specs.Sound.{soundPool}
 use Rattle.pool.proofs.Sound.{told}
 use Rattle.batch.specs.Ranks.{RankedTo}
-use Rattle.batch.proofs.Ranks.{ranked-none, ranked-more}
+use Rattle.batch.proofs.Ranks.{rankable, ranked-none, ranked-more}
 use borrow.Author.Needs.{needs}
 use Rattle.batch.proofs.rank_all.Statement.{statement}
 use Rattle.batch.proofs.rank_all.Tie as tie
@@ -23,11 +23,13 @@ loop-holds : tie.Need-loop-holds Inv-loop μ-loop
 loop-holds c = (search needs, ranges _ (told _ (c .pre .0) .settings) .frames .1, refl, refl, c .pre .0, c .pre .1, ranked-none _ _ _ _)
 
 rank-where-requires : tie.Need-rank-where-requires Inv-loop μ-loop
-rank-where-requires c κs = let v = c .before .before .before .before .loop .inv in (v .4, omega arith, v .5)
+rank-where-requires c κs =
+    let v = c .before .before .before .before .before .before .before .before .loop .inv in
+    rankable _ _ _ (told _ (v .4)) (omega arith) (v .5)
 
 loop-again : tie.Need-loop-again Inv-loop μ-loop
 loop-again c =
-    let r = c .before .before .before .before .before .loop in
+    let r = c .before .before .before .before .before .before .before .before .before .loop in
     let v = r .inv in (
       omega arith,
       v .1,
@@ -35,7 +37,7 @@ loop-again c =
       length-set (r .ranks) _ _ ∙ v .3,
       v .4,
       v .5,
-      ranked-more _ _ _ _ _ _ (v .2) (v .3) (omega arith) (v .6) (c .rank-where .ensures),
+      ranked-more _ _ _ _ _ _ _ (v .2) (v .3) (omega arith) (v .6) (v .5) (c .rank-where .ensures),
     )
 
 returns : tie.Need-returns Inv-loop μ-loop

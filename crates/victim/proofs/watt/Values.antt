@@ -1,5 +1,5 @@
 -- Values: each fits.
-use mathlib.Core.Path.{_≡_}
+use mathlib.Core.Path.{_≡_, refl}
 use mathlib.Core.List.{List}
 use Prim.Native.Nat.{ℕ, _*_, _≤_, _<_}
 use native.Mathlib.Omega.{arith}
@@ -15,42 +15,32 @@ use Rattle.pool.proofs.Sound.{Sound}
 use Rattle.pool.proofs.Epochs.{now-few}
 use Rattle.victim.specs.Watt.{valueAt}
 
--- the bounds of what frame i's value is made from
-pub record Fitting (p : Pool) (i : ℕ) : Type 0 where
-  pub accesses : frameAt (p .frames) i .accesses ≤ 8
-  pub writes : frameAt (p .frames) i .writes ≤ 4
-  pub young : nowOf p ≤ referenceLimit
-  pub weight : p .settings .weight ≤ 16
-
-pub fitting : (p : Pool) (i : ℕ) → Sound p → i < 128 → Fitting p i
-fitting p i s l = record {
-  accesses = s .frame i l .access .short;
-  writes = s .frame i l .write .short;
-  young = now-few p s;
-  weight = ranges (p .settings) (s .settings) .weight;
-}
+-- the bounds of what frame i's value is made from, as `value_of` asks for them
+pub fitting : (p : Pool) (i epoch : ℕ) → Sound p → i < 128 → epoch ≡ nowOf p
+    → (i < 128) × (frameAt (p .frames) i .accesses ≤ 8) × (frameAt (p .frames) i .writes ≤ 4) × (p .settings .weight ≤ 16) × (epoch ≤ referenceLimit)
+fitting p i epoch s l e = (l, s .frame i l .access .short, s .frame i l .write .short, ranges (p .settings) (s .settings) .weight, rw e (now-few p s))
 
 -- the worth of a log of up to 8 entries, as the code has found it
 pub found-small : (a : List ℕ) (at n epoch : ℕ) (w : Fraction) → w ≡ worthOf a at n epoch → n ≤ 8 → epoch ≤ referenceLimit → WorthSmall w
 found-small a at n epoch w e few young = rw e (worth-small a at n epoch few young)
 
-pub value-is : (p : Pool) (i epoch : ℕ) (access write v : Fraction) → epoch ≡ nowOf p
-    → access ≡ worthOf (p .access) (i * 8) (frameAt (p .frames) i .accesses) epoch
-    → write ≡ worthOf (p .write) (i * 4) (frameAt (p .frames) i .writes) epoch
-    → v ≡ valueOf access write (p .settings .weight) → v ≡ valueAt p i
+-- what `value_of` finds from frame i and the pool's logs is its value
+pub value-is : (p : Pool) (i epoch : ℕ) (v : Fraction) → epoch ≡ nowOf p
+    → v ≡ valueOf (worthOf (p .access) (i * 8) (frameAt (p .frames) i .accesses) epoch) (worthOf (p .write) (i * 4) (frameAt (p .frames) i .writes) epoch) (p .settings .weight)
+    → v ≡ valueAt p i
 unfolding valueAt
-value-is p i epoch access write v e a w q = rw (q, a, w, e)
+value-is p i epoch v e q = rw (q, e)
 
 -- each value is small enough to compare
 pub value-fits : (p : Pool) (i : ℕ) → Sound p → i < 128 → Small (valueAt p i)
 unfolding valueAt
 value-fits p i s l =
-    let h = fitting p i s l in
-    let few = h .writes in
+    let h = fitting p i (nowOf p) s l refl in
+    let few = h .2 in
     value-small _ _ (p .settings .weight)
-    (worth-small (p .access) (i * 8) (frameAt (p .frames) i .accesses) (nowOf p) (h .accesses) (h .young))
-    (worth-small (p .write) (i * 4) (frameAt (p .frames) i .writes) (nowOf p) (omega arith) (h .young))
-    (h .weight)
+    (worth-small (p .access) (i * 8) (frameAt (p .frames) i .accesses) (nowOf p) (h .1) (h .4))
+    (worth-small (p .write) (i * 4) (frameAt (p .frames) i .writes) (nowOf p) (omega arith) (h .4))
+    (h .3)
 
 -- and has a denominator
 pub value-positive : (p : Pool) (i : ℕ) → 0 < valueAt p i .den

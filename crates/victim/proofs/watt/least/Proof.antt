@@ -8,7 +8,7 @@ use Rattle.pool.specs.Sound.{soundPool}
 use Rattle.pool.specs.Pool.{nowOf}
 use Rattle.pool.proofs.Sound.{told}
 use Rattle.victim.specs.Choice.{unpinned}
-use Rattle.victim.proofs.watt.Values.{value-fits}
+use Rattle.victim.proofs.watt.Values.{fitting, value-is, value-fits}
 use Rattle.victim.proofs.watt.Turns.{framed, Best, best-none, best-skip, best-beat, best-keep}
 use borrow.Author.Needs.{needs}
 use Rattle.victim.proofs.watt.least.Statement.{statement}
@@ -25,13 +25,15 @@ abbrev μ-loop : tie.MeasureT-loop
 loop-holds : tie.Need-loop-holds Inv-loop μ-loop
 loop-holds c = (search needs, refl, framed _ (c .pre .0), c .pre .0, c .pre .1, best-none _ _)
 
-value-at-requires : tie.Need-value-at-requires Inv-loop μ-loop
-value-at-requires c κs = let v = c .before .before .before .before .loop .inv in (v .3, omega arith, v .4)
+value-of-requires : tie.Need-value-of-requires Inv-loop μ-loop
+value-of-requires c κs =
+    let v = c .before .before .before .before .before .before .before .loop .inv in
+    fitting _ _ _ (told _ (v .3)) (omega arith) (v .4)
 
 beats-requires : tie.Need-beats-requires Inv-loop μ-loop
 beats-requires c κs =
-    let v = c .before .before .before .before .before .loop .inv in
-    (rw (c .value-at .ensures) (value-fits _ _ (told _ (v .3)) (omega arith)), v .5 .small)
+    let v = c .before .before .before .before .before .before .before .before .loop .inv in
+    (rw (value-is _ _ _ _ (v .4) (c .value-of .ensures)) (value-fits _ _ (told _ (v .3)) (omega arith)), v .5 .small)
 
 loop-again : tie.Need-loop-again Inv-loop μ-loop
 loop-again c =
@@ -43,9 +45,9 @@ loop-again c =
       v .2,
       v .3,
       v .4,
-      ⊎-elim (λ w. rw (w .4, w .5) (best-beat _ _ _ _ _ _ (v .5) (w .0 .taken) (w .1 .ensures)
-          (rw (w .1 .ensures) (value-fits _ _ (told _ (v .3)) l)) (sym (w .2 .ensures) ∙ w .3 .taken)))
-          (⊎-elim (λ w. rw (w .4, w .5) (best-keep _ _ _ _ _ _ (v .5) (w .1 .ensures) (sym (w .2 .ensures) ∙ w .3 .left)))
+      ⊎-elim (λ w. let q = value-is _ _ _ _ (v .4) (w .4 .ensures) in
+          rw (w .7, w .8) (best-beat _ _ _ _ _ _ (v .5) (w .0 .taken) q (rw q (value-fits _ _ (told _ (v .3)) l)) (sym (w .5 .ensures) ∙ w .6 .taken)))
+          (⊎-elim (λ w. rw (w .7, w .8) (best-keep _ _ _ _ _ _ (v .5) (value-is _ _ _ _ (v .4) (w .4 .ensures)) (sym (w .5 .ensures) ∙ w .6 .left)))
           (λ w. rw (w .1, w .2) (best-skip _ _ _ _ _ (v .5) (w .0 .left))))
           (c .if1 .came),
     )
@@ -59,5 +61,5 @@ returns c =
 pub least-spec : {M : Type 1} → statement M
 least-spec =
     tie.close
-    (tie.spec Inv-loop μ-loop (λ c. search needs) loop-holds (λ c. search needs) (λ c. search needs) (λ c. search needs) value-at-requires
+    (tie.spec Inv-loop μ-loop (λ c. search needs) loop-holds (λ c. search needs) (λ c. search needs) (λ c. search needs) value-of-requires
     beats-requires (λ c. search needs) (λ c. search needs) loop-again returns)
