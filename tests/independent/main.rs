@@ -22,6 +22,7 @@ usage: listing < TRACE
        counts TRACE-FILE REPEAT
        make SEED > TRACE
        makeseries SEED > ITEMS
+       stored > ITEMS
        skewed lru|clock|watt > TRACE
        compare ROWS-PROGRAM SERIES-PROGRAM FIRST COUNT SERIESCOUNT";
 
@@ -51,6 +52,7 @@ fn run(arguments: &[&str]) -> Result<ExitCode, Box<dyn Error>> {
         ["counts", file, repeat] => return counts(&std::fs::read(file)?, repeat.parse()?),
         ["make", seed] => stdout.write_all(&traces::trace(seed.parse()?))?,
         ["makeseries", seed] => stdout.write_all(&traces::series(seed.parse()?))?,
+        ["stored"] => stdout.write_all(&traces::stored())?,
         ["skewed", "lru"] => stdout.write_all(&traces::skewed(Rule::Lru))?,
         ["skewed", "clock"] => stdout.write_all(&traces::skewed(Rule::Clock))?,
         ["skewed", "watt"] => stdout.write_all(&traces::skewed(Rule::Watt))?,
