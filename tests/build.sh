@@ -40,7 +40,7 @@ build_programs() { # NAME...
 }
 
 build_over_host() { # NAME, of tests/NAME.c
-    quietly gcc -std=c99 -O3 -Wall -Wextra -Iinclude "tests/$1.c" target/native/libhost.a -o "target/native/$1"
+    quietly gcc -std=c99 -O3 -pthread -Wall -Wextra -Iinclude "tests/$1.c" target/native/libhost.a -o "target/native/$1"
 }
 
 # The independent replay, a program of its own that shares nothing with the crates.

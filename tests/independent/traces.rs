@@ -614,7 +614,7 @@ pub fn stored() -> Vec<u8> {
 
 /// A trace for timing: 8,000 records, half of them writes, over 450 pages of
 /// which the low ones are named far more often.
-pub fn skewed(rule: Rule) -> Vec<u8> {
+pub fn skewed(rule: Rule, order: Order) -> Vec<u8> {
     let random = &mut Random::new(1);
     let settings = Settings {
         rule,
@@ -635,5 +635,5 @@ pub fn skewed(rule: Rule) -> Vec<u8> {
         writes_left -= u32::from(write);
         records.push((page, if write { WRITE } else { READ }));
     }
-    encode(&settings, Order::LowFirst, &records)
+    encode(&settings, order, &records)
 }
