@@ -107,7 +107,7 @@ static void expect_untouched(struct buffer out, size_t from)
 {
     for (size_t i = from; i < out.length; i++)
         if (out.at[i] != untouched(i))
-            fail("expected byte %zu of out left at %02x, got %02x", i, untouched(i), out.at[i]);
+            fail("expected byte %zu untouched at %02x, got %02x", i, untouched(i), out.at[i]);
     held++;
 }
 
