@@ -1,8 +1,10 @@
-/* Hitchyawl for a C transport: check a trace of edition 1, and put it into the other byte order.
+/* Hitchyawl for a C transport: check a trace of edition 1, put it into the other byte order, and
+ * replay it to counts.
  *
- * Both calls are exported by the archive of the crate `host`. They keep no state, allocate nothing,
- * and may run in several threads at once. While a call runs, nothing else may write to its buffers,
- * neither another thread nor another process that maps the same memory, and nothing may read `out`.
+ * The calls are exported by the archive of the crate `host`. They keep no state, allocate nothing,
+ * and may run in several threads at once. hitchyawl_counts may need 256 KiB of stack, the others
+ * hardly any. While a call runs, nothing else may write to its buffers, neither another thread nor
+ * another process that maps the same memory, and nothing may read `out`.
  *
  * A buffer is a pointer and its length in bytes. The memory has to be there in full, may stand at
  * any address (nothing is asked of its alignment), and the two buffers of a call must not overlap.
@@ -18,7 +20,7 @@
 extern "C" {
 #endif
 
-/* The numbered refusals. The calls below give 1 to 8, and hitchyawl_convert 13 too; the others are
+/* The numbered refusals. The calls below give 1 to 8, and those that store 13 too; the others are
  * given elsewhere by the bench and stand here so that each number has one name. */
 enum hitchyawl_refusal {
     HITCHYAWL_ACCEPTED = 0,
@@ -52,6 +54,15 @@ uint32_t hitchyawl_check(const uint8_t *bytes, size_t length);
  * it keep their contents. Else returns the first of the refusals 1 to 8 that fits, then 13 where
  * `room`, the length of `out`, is less than `length`; a refused call stores nothing. */
 uint32_t hitchyawl_convert(const uint8_t *bytes, size_t length, uint8_t *out, size_t room);
+
+/* The counts of a replay of the trace from a fresh pool.
+ *
+ * Returns 0 with six counts in the first 24 bytes of `out`, 4 bytes each and in the trace's own byte
+ * order: hits, misses, evictions, batches, pages written, refused records; the bytes beyond them
+ * keep their contents. A refused record (10 to 12) is counted, and replay goes on. Else returns the
+ * first of the refusals 1 to 8 that fits, then 13 where `room`, the length of `out`, is less than
+ * 24; a refused call stores nothing. */
+uint32_t hitchyawl_counts(const uint8_t *bytes, size_t length, uint8_t *out, size_t room);
 
 #ifdef __cplusplus
 }

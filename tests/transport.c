@@ -1,12 +1,16 @@
 /* Calls the exports of the crate `host` as a C transport does, and holds them to their header.
  *
- *   transport NAME-high.trace NAME-low.trace ...
+ *   transport NAME-high.trace NAME-low.trace COUNTS ...
  *
- * Each pair is one good trace in both orders. The first, of 1 to 7,999 records, is also damaged, cut
- * and given too little room. The first expectation that fails ends the program. */
+ * Each pair is one good trace in both orders, and COUNTS its six counts with spaces between. The
+ * first is the printed example; it is also damaged, cut and given too little room. The first
+ * expectation that fails ends the program. */
+#define _POSIX_C_SOURCE 200112L
+
 #include "hitchyawl.h"
 #include "trace_bytes.h"
 
+#include <pthread.h>
 #include <stdarg.h>
 #include <stdio.h>
 #include <stdlib.h>
@@ -14,6 +18,12 @@
 
 /* Bytes of a buffer beyond what a call may store to. */
 enum { BEYOND = 24 };
+
+/* Hits, misses, evictions, batches, written, refused: 4 bytes each. */
+enum { COUNTS = 6, COUNTS_BYTES = 24 };
+
+/* What the header says that a call may need. */
+enum { STACK_BYTES = 256 * 1024 };
 
 struct buffer {
     uint8_t *memory; /* as it was allocated */
@@ -97,7 +107,7 @@ static void expect_untouched(struct buffer out, size_t from)
 {
     for (size_t i = from; i < out.length; i++)
         if (out.at[i] != untouched(i))
-            fail("convert: expected byte %zu of out left at %02x, got %02x", i, untouched(i), out.at[i]);
+            fail("expected byte %zu untouched at %02x, got %02x", i, untouched(i), out.at[i]);
     held++;
 }
 
@@ -122,7 +132,7 @@ static struct buffer read_file(const char *path)
 
 /* ---- what the calls owe */
 
-/* Both calls refuse the bytes by this number, whatever the room, and nothing is stored. */
+/* Every call refuses the bytes by this number, whatever the room, and nothing is stored. */
 static void expect_refused(const uint8_t *bytes, size_t length, uint32_t refusal)
 {
     struct buffer out = untouched_buffer(length + BEYOND, 0);
@@ -130,6 +140,10 @@ static void expect_refused(const uint8_t *bytes, size_t length, uint32_t refusal
     expect_answer("convert", refusal, hitchyawl_convert(bytes, length, out.at, out.length));
     expect_untouched(out, 0);
     expect_answer("convert without room", refusal, hitchyawl_convert(bytes, length, out.at, 0));
+    expect_untouched(out, 0);
+    expect_answer("counts", refusal, hitchyawl_counts(bytes, length, out.at, out.length));
+    expect_untouched(out, 0);
+    expect_answer("counts without room", refusal, hitchyawl_counts(bytes, length, out.at, 0));
     expect_untouched(out, 0);
     release(out);
 }
@@ -148,7 +162,40 @@ static void expect_converted(struct buffer from, struct buffer to, size_t beyond
     release(out);
 }
 
-/* The bytes are accepted, and converting them twice gives them again. */
+/* The trace's counts are these bytes, at the front of a buffer with `beyond` more. */
+static void expect_count_bytes(struct buffer trace, const uint8_t *expected, size_t beyond, size_t shift)
+{
+    struct buffer out = untouched_buffer(COUNTS_BYTES + beyond, shift);
+    struct buffer before = copy_of(trace.at, trace.length, shift);
+    expect_answer("counts", HITCHYAWL_ACCEPTED, hitchyawl_counts(before.at, before.length, out.at, out.length));
+    expect_bytes("counts", expected, out.at, COUNTS_BYTES);
+    expect_untouched(out, COUNTS_BYTES);
+    expect_bytes("counts' input afterwards", trace.at, before.at, trace.length);
+    release(before);
+    release(out);
+}
+
+static void expect_counts(struct buffer trace, enum order order, const uint32_t *counts, size_t beyond, size_t shift)
+{
+    uint8_t expected[COUNTS_BYTES];
+    for (size_t i = 0; i < COUNTS; i++)
+        put32(expected + 4 * i, counts[i], order);
+    expect_count_bytes(trace, expected, beyond, shift);
+}
+
+/* The second trace, in the other order, has the counts of the first. */
+static void expect_same_counts(struct buffer trace, struct buffer there)
+{
+    enum order order = get32(trace.at, HIGH_FIRST) == MARK ? HIGH_FIRST : LOW_FIRST;
+    uint8_t out[COUNTS_BYTES];
+    uint32_t counts[COUNTS];
+    expect_answer("counts", HITCHYAWL_ACCEPTED, hitchyawl_counts(trace.at, trace.length, out, sizeof out));
+    for (size_t i = 0; i < COUNTS; i++)
+        counts[i] = get32(out + 4 * i, order);
+    expect_counts(there, order == HIGH_FIRST ? LOW_FIRST : HIGH_FIRST, counts, 0, 0);
+}
+
+/* The bytes are accepted, converting them twice gives them again, and their counts do not depend on the order. */
 static void expect_there_and_back(struct buffer trace)
 {
     struct buffer there = untouched_buffer(trace.length, 0);
@@ -160,36 +207,95 @@ static void expect_there_and_back(struct buffer trace)
     expect_answer("convert back", HITCHYAWL_ACCEPTED,
                   hitchyawl_convert(there.at, there.length, back.at, back.length));
     expect_bytes("there and back", trace.at, back.at, trace.length);
+    expect_same_counts(trace, there);
     release(there);
     release(back);
 }
 
+/* ---- the stack of a call */
+
+static uint8_t stack[4 * STACK_BYTES];
+
+static void *count_in_thread(void *argument)
+{
+    struct buffer *trace = argument;
+    uint8_t out[COUNTS_BYTES];
+    expect_answer("counts", HITCHYAWL_ACCEPTED, hitchyawl_counts(trace->at, trace->length, out, sizeof out));
+    return NULL;
+}
+
+/* The call runs in a thread on `stack`, which is used from its end, and leaves what lies below STACK_BYTES alone. */
+static void expect_stack_enough(struct buffer trace)
+{
+    struct buffer below = {stack, stack, sizeof stack - STACK_BYTES};
+    pthread_attr_t attributes;
+    pthread_t thread;
+    for (size_t i = 0; i < below.length; i++)
+        stack[i] = untouched(i);
+    if (pthread_attr_init(&attributes) != 0 || pthread_attr_setstack(&attributes, stack, sizeof stack) != 0
+        || pthread_create(&thread, &attributes, count_in_thread, &trace) != 0 || pthread_join(thread, NULL) != 0)
+        fail("expected a thread, got none");
+    pthread_attr_destroy(&attributes);
+    expect_untouched(below, 0);
+}
+
 /* ---- a good trace */
 
-static void try_pair(struct buffer high, struct buffer low, const char *name)
+static void try_pair(struct buffer high, struct buffer low, const uint32_t *counts, const char *name)
 {
     static const char *const addresses[] = {"even", "odd"};
+    static const size_t beyonds[] = {0, 1, BEYOND};
     for (size_t shift = 0; shift <= 1; shift++)
-        for (size_t beyond = 0; beyond <= BEYOND; beyond += BEYOND) {
-            name_case("%s to low, %zu bytes beyond, at an %s address", name, beyond, addresses[shift]);
-            expect_converted(high, low, beyond, shift);
-            name_case("%s to high, %zu bytes beyond, at an %s address", name, beyond, addresses[shift]);
-            expect_converted(low, high, beyond, shift);
+        for (size_t i = 0; i < sizeof beyonds / sizeof beyonds[0]; i++) {
+            name_case("%s, high first, %zu bytes beyond, at an %s address", name, beyonds[i], addresses[shift]);
+            expect_converted(high, low, beyonds[i], shift);
+            expect_counts(high, HIGH_FIRST, counts, beyonds[i], shift);
+            name_case("%s, low first, %zu bytes beyond, at an %s address", name, beyonds[i], addresses[shift]);
+            expect_converted(low, high, beyonds[i], shift);
+            expect_counts(low, LOW_FIRST, counts, beyonds[i], shift);
         }
     name_case("%s there and back", name);
     expect_there_and_back(high);
     expect_there_and_back(low);
+    name_case("%s on a stack of 256 KiB", name);
+    expect_stack_enough(high);
 }
 
-static void try_files(const char *high_path, const char *low_path)
+static void read_counts(char *words, uint32_t *counts)
+{
+    char *rest = words, *end;
+    for (size_t i = 0; i < COUNTS; i++, rest = end) {
+        counts[i] = (uint32_t)strtoul(rest, &end, 10);
+        if (end == rest)
+            fail("expected six counts, got \"%s\"", words);
+    }
+    if (*rest != '\0')
+        fail("expected six counts and no more, got \"%s\"", words);
+}
+
+static void try_files(const char *high_path, const char *low_path, char *words)
 {
     struct buffer high = read_file(high_path);
     struct buffer low = read_file(low_path);
+    uint32_t counts[COUNTS];
+    read_counts(words, counts);
     if (low.length != high.length)
         fail("expected %zu bytes as in the other order, got %zu", high.length, low.length);
-    try_pair(high, low, high_path);
+    try_pair(high, low, counts, high_path);
     release(high);
     release(low);
+}
+
+/* Hits 1, misses 4, evictions 2, batches 1, written 1, refused 0, in the trace's own order. */
+static void try_example(const char *path, enum order order)
+{
+    static const uint8_t counts[][COUNTS_BYTES] = {
+        {0, 0, 0, 1, 0, 0, 0, 4, 0, 0, 0, 2, 0, 0, 0, 1, 0, 0, 0, 1, 0, 0, 0, 0},
+        {1, 0, 0, 0, 4, 0, 0, 0, 2, 0, 0, 0, 1, 0, 0, 0, 1, 0, 0, 0, 0, 0, 0, 0},
+    };
+    struct buffer trace = read_file(path);
+    expect_count_bytes(trace, counts[order], BEYOND, 1);
+    release(trace);
 }
 
 /* ---- a damaged trace */
@@ -372,14 +478,28 @@ static void try_short_rooms(struct buffer trace, enum order order)
     release(out);
 }
 
+static void try_short_count_rooms(struct buffer trace, enum order order)
+{
+    struct buffer out = untouched_buffer(COUNTS_BYTES + BEYOND, 1);
+    for (size_t room = 0; room < COUNTS_BYTES; room++) {
+        name_case("room for %zu bytes of counts, %s first", room, name_of(order));
+        expect_answer("counts", HITCHYAWL_BUFFER_TOO_SHORT, hitchyawl_counts(trace.at, trace.length, out.at, room));
+        expect_untouched(out, 0);
+    }
+    release(out);
+}
+
 static void try_null_pointers(struct buffer trace)
 {
-    uint8_t out[1] = {untouched(0)};
+    uint8_t out[COUNTS_BYTES] = {0};
     name_case("null pointers of length 0");
     expect_answer("check", HITCHYAWL_TOO_SHORT, hitchyawl_check(NULL, 0));
     expect_answer("convert of nothing to nothing", HITCHYAWL_TOO_SHORT, hitchyawl_convert(NULL, 0, NULL, 0));
     expect_answer("convert of nothing", HITCHYAWL_TOO_SHORT, hitchyawl_convert(NULL, 0, out, sizeof out));
     expect_answer("convert to nothing", HITCHYAWL_BUFFER_TOO_SHORT, hitchyawl_convert(trace.at, trace.length, NULL, 0));
+    expect_answer("counts of nothing to nothing", HITCHYAWL_TOO_SHORT, hitchyawl_counts(NULL, 0, NULL, 0));
+    expect_answer("counts of nothing", HITCHYAWL_TOO_SHORT, hitchyawl_counts(NULL, 0, out, sizeof out));
+    expect_answer("counts to nothing", HITCHYAWL_BUFFER_TOO_SHORT, hitchyawl_counts(trace.at, trace.length, NULL, 0));
 }
 
 static void try_faults(const char *path, enum order order)
@@ -394,6 +514,7 @@ static void try_faults(const char *path, enum order order)
     try_order_of_checks(trace, order);
     try_other_lengths(trace, order);
     try_short_rooms(trace, order);
+    try_short_count_rooms(trace, order);
     try_null_pointers(trace);
     release(trace);
 }
@@ -407,12 +528,12 @@ static struct buffer built_trace(uint32_t count, enum order order)
     return trace;
 }
 
-static void try_built(uint32_t count, const char *name)
+static void try_built(uint32_t count, const uint32_t *counts, const char *name)
 {
     struct buffer high = built_trace(count, HIGH_FIRST);
     struct buffer low = built_trace(count, LOW_FIRST);
     if (count <= MOST_RECORDS) {
-        try_pair(high, low, name);
+        try_pair(high, low, counts, name);
     } else {
         name_case("%s", name);
         expect_refused(high.at, high.length, HITCHYAWL_TOO_MANY_RECORDS);
@@ -422,19 +543,27 @@ static void try_built(uint32_t count, const char *name)
     release(low);
 }
 
+/* No page comes twice, so there is no hit and each unpin is refused. The 100th pin, the 300th reference, takes the last
+ * of the 100 frames; the 100 pages written have left by then, and all that follows is refused. Only the number of
+ * batches is the independent replay's. */
+static const uint32_t longest_counts[COUNTS] = {0, 300, 200, 30, 100, 7700};
+static const uint32_t no_counts[COUNTS] = {0};
+
 int main(int count, char **words)
 {
-    if (count < 3 || count % 2 == 0) {
-        fprintf(stderr, "transport NAME-high.trace NAME-low.trace ...\n");
+    if (count < 4 || count % 3 != 1) {
+        fprintf(stderr, "transport NAME-high.trace NAME-low.trace COUNTS ...\n");
         return 2;
     }
-    for (int i = 1; i < count; i += 2)
-        try_files(words[i], words[i + 1]);
+    for (int i = 1; i < count; i += 3)
+        try_files(words[i], words[i + 1], words[i + 2]);
+    try_example(words[1], HIGH_FIRST);
+    try_example(words[2], LOW_FIRST);
     try_faults(words[1], HIGH_FIRST);
     try_faults(words[2], LOW_FIRST);
-    try_built(0, "no records");
-    try_built(MOST_RECORDS, "8000 records");
-    try_built(MOST_RECORDS + 1, "8001 records");
+    try_built(0, no_counts, "no records");
+    try_built(MOST_RECORDS, longest_counts, "8000 records");
+    try_built(MOST_RECORDS + 1, NULL, "8001 records");
     printf("transport: %lu expectations held\n", held);
     return 0;
 }

@@ -7,7 +7,7 @@ mod replay;
 mod tests;
 mod traces;
 
-use replay::{check, go_on, Pool, Replayed, Rule, Tally, Trace};
+use replay::{check, go_on, Order, Pool, Replayed, Rule, Tally, Trace};
 use std::collections::BTreeMap;
 use std::error::Error;
 use std::fmt;
@@ -22,7 +22,8 @@ usage: listing < TRACE
        counts TRACE-FILE REPEAT
        make SEED > TRACE
        makeseries SEED > ITEMS
-       skewed lru|clock|watt > TRACE
+       stored > ITEMS
+       skewed lru|clock|watt high|low > TRACE
        compare ROWS-PROGRAM SERIES-PROGRAM FIRST COUNT SERIESCOUNT";
 
 fn main() -> ExitCode {
@@ -51,9 +52,21 @@ fn run(arguments: &[&str]) -> Result<ExitCode, Box<dyn Error>> {
         ["counts", file, repeat] => return counts(&std::fs::read(file)?, repeat.parse()?),
         ["make", seed] => stdout.write_all(&traces::trace(seed.parse()?))?,
         ["makeseries", seed] => stdout.write_all(&traces::series(seed.parse()?))?,
-        ["skewed", "lru"] => stdout.write_all(&traces::skewed(Rule::Lru))?,
-        ["skewed", "clock"] => stdout.write_all(&traces::skewed(Rule::Clock))?,
-        ["skewed", "watt"] => stdout.write_all(&traces::skewed(Rule::Watt))?,
+        ["stored"] => stdout.write_all(&traces::stored())?,
+        ["skewed", rule, order] => {
+            let rule = match *rule {
+                "lru" => Rule::Lru,
+                "clock" => Rule::Clock,
+                "watt" => Rule::Watt,
+                _ => return Err(USAGE.into()),
+            };
+            let order = match *order {
+                "high" => Order::HighFirst,
+                "low" => Order::LowFirst,
+                _ => return Err(USAGE.into()),
+            };
+            stdout.write_all(&traces::skewed(rule, order))?;
+        }
         ["compare", rows, series, first, count, series_count] => {
             let first: u64 = first.parse()?;
             let (count, series_count) = (count.parse::<u64>()?, series_count.parse::<u64>()?);

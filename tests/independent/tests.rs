@@ -336,7 +336,7 @@ fn trace_refusals() {
         // Of several, the lowest number.
         let (mut bytes, mut lowest) = (plain.clone(), 8);
         for (at, number) in [
-            (26, 0),
+            (26, 129),
             (16, 9),
             (44, 1),
             (20, 0),
@@ -367,11 +367,7 @@ fn series_rules() {
         vec![],
         item(&other),
     ];
-    let mut bytes = Vec::new();
-    for item in &items {
-        bytes.extend((item.len() as u32).to_be_bytes());
-        bytes.extend(item);
-    }
+    let mut bytes = traces::joined(&items);
     bytes.extend([0, 0, 0, 9, 1]);
     let listing = |row: u32, pool: &str, frame: &str, hits: u32| {
         format!(
@@ -511,4 +507,23 @@ fn series_reach_the_end() {
         });
         assert!(long >= 8 && refused_9 && refused_15, "seed {seed}");
     }
+}
+
+#[test]
+fn stored_series_has_its_outcomes() {
+    let mut seen = Vec::new();
+    list_series(&traces::stored(), &mut |result| {
+        seen.push(match result {
+            Ok(replayed) => {
+                let outcomes = replayed.rows.iter().map(|row| row[0]).collect();
+                let frames = replayed.pool.settings.frames;
+                Ok((outcomes, replayed.tally.evictions > frames))
+            }
+            Err(refusal) => Err(*refusal),
+        });
+    });
+    let all = std::collections::BTreeSet::from([0, 1, 2, 3, 4, 110, 111]);
+    assert_eq!(seen[1..4], [(); 3].map(|_| Ok((all.clone(), true))));
+    assert!(seen[4].is_ok() && seen[5].is_ok() && seen[8].is_ok());
+    assert_eq!((&seen[6], &seen[7], seen.len()), (&Err(15), &Err(8), 9));
 }

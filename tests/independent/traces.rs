@@ -500,8 +500,13 @@ fn other_trace(random: &mut Random, settings: &Settings, turn: u32) -> Vec<u8> {
     good_trace(random, source, &other, 40)
 }
 
-/// The series of a seed: items, each preceded by its length high byte first.
-/// Ten traces go on from one another, most of them long, so that k reaches its
+/// The items as a series, each preceded by its length high byte first.
+pub fn joined(items: &[Vec<u8>]) -> Vec<u8> {
+    let item = |item: &Vec<u8>| [&(item.len() as u32).to_be_bytes()[..], &item[..]].concat();
+    items.iter().flat_map(item).collect()
+}
+
+/// The series of a seed. Ten traces go on from one another, most of them long, so that k reaches its
 /// end; damaged traces, traces of other settings and empty items stand between.
 pub fn series(seed: u64) -> Vec<u8> {
     let random = &mut Random::new(!seed);
@@ -550,11 +555,7 @@ pub fn series(seed: u64) -> Vec<u8> {
         items.push(good_trace(random, &mut source, &settings, 200));
     }
 
-    let mut bytes = Vec::new();
-    for item in &items {
-        bytes.extend((item.len() as u32).to_be_bytes());
-        bytes.extend(item);
-    }
+    let mut bytes = joined(&items);
     if random.chance(20) {
         // The input ends inside an item.
         bytes.truncate(bytes.len() - random.between(1, 60) as usize);
@@ -562,9 +563,58 @@ pub fn series(seed: u64) -> Vec<u8> {
     bytes
 }
 
+/// The stored series, short because programs replay it under emulation: the
+/// paper's example; for each rule a trace with every outcome 0 to 4, 110 and
+/// 111; then one pool with which three traces go on, and between them one of
+/// other settings and one damaged. The seeds are chosen for these outcomes.
+pub fn stored() -> Vec<u8> {
+    let small = |rule: Rule, frames: u32, batch: u32| Settings {
+        rule,
+        frames,
+        batch,
+        cap: 2,
+        sample: 3,
+        weight: 2,
+        epoch: 7,
+        seed: 4_000_000_000,
+    };
+    let example = Settings {
+        cap: 1,
+        sample: 1,
+        weight: 0,
+        epoch: 1,
+        seed: 0,
+        ..small(Rule::Lru, 2, 1)
+    };
+    let records = [(7, READ), (8, WRITE), (7, READ), (9, READ), (8, READ)];
+    let mut items = vec![encode(&example, Order::HighFirst, &records)];
+
+    for (rule, frames, batch, seed) in [
+        (Rule::Lru, 3, 2, 42),
+        (Rule::Clock, 5, 3, 611),
+        (Rule::Watt, 8, 4, 861),
+    ] {
+        let random = &mut Random::new(seed);
+        let source = &mut Source::new(random, frames, 12);
+        items.push(Vec::new());
+        items.push(good_trace(random, source, &small(rule, frames, batch), 120));
+    }
+
+    let random = &mut Random::new(67);
+    let settings = small(Rule::Watt, 16, 5);
+    let source = &mut Source::new(random, settings.frames, 12);
+    items.push(Vec::new());
+    items.push(good_trace(random, source, &settings, 100));
+    items.push(good_trace(random, source, &settings, 100));
+    items.push(other_trace(random, &settings, 7));
+    items.push(bad_trace(random, &settings));
+    items.push(good_trace(random, source, &settings, 60));
+    joined(&items)
+}
+
 /// A trace for timing: 8,000 records, half of them writes, over 450 pages of
 /// which the low ones are named far more often.
-pub fn skewed(rule: Rule) -> Vec<u8> {
+pub fn skewed(rule: Rule, order: Order) -> Vec<u8> {
     let random = &mut Random::new(1);
     let settings = Settings {
         rule,
@@ -585,5 +635,5 @@ pub fn skewed(rule: Rule) -> Vec<u8> {
         writes_left -= u32::from(write);
         records.push((page, if write { WRITE } else { READ }));
     }
-    encode(&settings, Order::LowFirst, &records)
+    encode(&settings, order, &records)
 }
