@@ -4,6 +4,7 @@ use mathlib.Core.Bool.{Bool, true, false, _&&_}
 use Prim.Native.Nat.{ℕ, zero, suc, _≤_, _<_}
 use native.Mathlib.Omega.{arith}
 use lib.Dec.{eqb, leb}
+use Rattle.search.specs.declared.Found.{Found}
 use Rattle.search.specs.declared.Found.the-variants.{At, Nothing}
 use Rattle.refusal.specs.Refusals.{badField, noReferenceLeft, notPinned, pinsFull}
 use Rattle.pool.specs.declared.Pool.{Pool}
@@ -21,29 +22,30 @@ Settles w v = (w ≡ v) × (w .frame < 128)
 settles : (w v u : Row) → w ≡ v → v .frame < 128 → v ≡ u → Settles w u
 settles w v u e l h = (e ∙ h, rw e l)
 
+module _ (w : Row) where
+  pub hit-full : (pins i : ℕ) (pin : Bool) → (pin && eqb pins pinLimit) ≡ true → w ≡ refusedRow pinsFull → Settles w (settledHit pins i pin)
+  hit-full pins i pin t e = settles w (refusedRow pinsFull) (settledHit pins i pin) e (omega arith) (rw t)
+
+  pub hit-free : (pins i : ℕ) (pin : Bool) → (pin && eqb pins pinLimit) ≡ false → i < 128 → w ≡ row hit i 0 0 → Settles w (settledHit pins i pin)
+  hit-free pins i pin t l e = settles w (row hit i 0 0) (settledHit pins i pin) e l (rw t)
+
+  pub miss-free : (f : Found) (i : ℕ) → f ≡ At i → i < 128 → w ≡ row missUnused i 0 0 → Settles w (settledMiss f)
+  miss-free f i a l e = settles w (row missUnused i 0 0) (settledMiss f) e l (rw a)
+
+  pub miss-full : (f : Found) → f ≡ Nothing → w ≡ row missClean 0 0 0 → Settles w (settledMiss f)
+  miss-full f a e = settles w (row missClean 0 0 0) (settledMiss f) e (omega arith) (rw a)
+
 module _ (p : Pool) (w : Row) where
-  pub hit-full : (i : ℕ) (pin : Bool) → (pin && eqb (pinsAt p i) pinLimit) ≡ true → w ≡ refusedRow pinsFull → Settles w (settledHit p i pin)
-  hit-full i pin t e = settles w (refusedRow pinsFull) (settledHit p i pin) e (omega arith) (rw t)
-
-  pub hit-free : (i : ℕ) (pin : Bool) → (pin && eqb (pinsAt p i) pinLimit) ≡ false → i < 128 → w ≡ row hit i 0 0 → Settles w (settledHit p i pin)
-  hit-free i pin t l e = settles w (row hit i 0 0) (settledHit p i pin) e l (rw t)
-
-  pub miss-free : (i : ℕ) → lowestUnused p ≡ At i → i < 128 → w ≡ row missUnused i 0 0 → Settles w (settledMiss p)
-  miss-free i a l e = settles w (row missUnused i 0 0) (settledMiss p) e l (rw a)
-
-  pub miss-full : lowestUnused p ≡ Nothing → w ≡ row missClean 0 0 0 → Settles w (settledMiss p)
-  miss-full a e = settles w (row missClean 0 0 0) (settledMiss p) e (omega arith) (rw a)
-
   module _ (page : ℕ) where
     pub settle-limit : (pin : Bool) → leb referenceLimit (p .k) ≡ true → w ≡ refusedRow noReferenceLeft → Settles w (settledReference p page pin)
     unfolding settledReference
     settle-limit pin t e = settles w (refusedRow noReferenceLeft) (settledReference p page pin) e (omega arith) (rw t)
 
-    pub settle-resident : (pin : Bool) (i : ℕ) → leb referenceLimit (p .k) ≡ false → findPage (p .frames) page ≡ At i → Settles w (settledHit p i pin) → Settles w (settledReference p page pin)
+    pub settle-resident : (pin : Bool) (i : ℕ) → leb referenceLimit (p .k) ≡ false → findPage (p .frames) page ≡ At i → Settles w (settledHit (pinsAt p i) i pin) → Settles w (settledReference p page pin)
     unfolding settledReference
     settle-resident pin i t a e = (e .0 ∙ rw (t, a), e .1)
 
-    pub settle-absent : (pin : Bool) → leb referenceLimit (p .k) ≡ false → findPage (p .frames) page ≡ Nothing → Settles w (settledMiss p) → Settles w (settledReference p page pin)
+    pub settle-absent : (pin : Bool) → leb referenceLimit (p .k) ≡ false → findPage (p .frames) page ≡ Nothing → Settles w (settledMiss (lowestUnused p)) → Settles w (settledReference p page pin)
     unfolding settledReference
     settle-absent pin t a e = (e .0 ∙ rw (t, a), e .1)
 

@@ -89,24 +89,24 @@ module _ (p : Pool) (s : Sound p) (z : Sized p) (page kind : ℕ) where
   abbrev pin : Bool
   pin = eqb kind 2
 
-  hit-way : (i : ℕ) → i < 128 → Way p (hitOf p i write pin) (settledHit p i pin) page kind
+  hit-way : (i : ℕ) → i < 128 → Way p (hitOf p i write pin) (settledHit (pinsAt p i) i pin) page kind
   hit-way i l = go (pin && eqb (pinsAt p i) pinLimit) refl
     where
-      go : (b : Bool) → (pin && eqb (pinsAt p i) pinLimit) ≡ b → Way p (hitOf p i write pin) (settledHit p i pin) page kind
-      go true e = same-way (hitOf p i write pin) (refusal p pinsFull) (settledHit p i pin) (refusedRow pinsFull) (pins-full p i write pin e) (rw e) (refused-way pinsFull)
+      go : (b : Bool) → (pin && eqb (pinsAt p i) pinLimit) ≡ b → Way p (hitOf p i write pin) (settledHit (pinsAt p i) i pin) page kind
+      go true e = same-way (hitOf p i write pin) (refusal p pinsFull) (settledHit (pinsAt p i) i pin) (refusedRow pinsFull) (pins-full p i write pin e) (rw e) (refused-way pinsFull)
       go false e =
-          same-way (hitOf p i write pin) (did (row hit i 0 0) [] (pinnedWhere (hitAt p i write) pin i)) (settledHit p i pin) (row hit i 0 0) (pins-free p i write pin e) (rw e)
+          same-way (hitOf p i write pin) (did (row hit i 0 0) [] (pinnedWhere (hitAt p i write) pin i)) (settledHit (pinsAt p i) i pin) (row hit i 0 0) (pins-free p i write pin e) (rw e)
           (settled-way (row hit i 0 0) (did (row hit i 0 0) [] (pinnedWhere (hitAt p i write) pin i)) (λ q. omega arith) refl (entered-hit p z i l page kind e) refl)
 
-  miss-way : Way p (missOf p page write pin) (settledMiss p) page kind
+  miss-way : Way p (missOf p page write pin) (settledMiss (lowestUnused p)) page kind
   miss-way = go (lowestUnused p) refl
     where
-      go : (f : Found) → lowestUnused p ≡ f → Way p (missOf p page write pin) (settledMiss p) page kind
+      go : (f : Found) → lowestUnused p ≡ f → Way p (missOf p page write pin) (settledMiss (lowestUnused p)) page kind
       go (At i) e =
-          same-way (missOf p page write pin) (did (row missUnused i 0 0) [] (filled p i page write pin)) (settledMiss p) (row missUnused i 0 0) (free p page write pin i e) (rw e)
+          same-way (missOf p page write pin) (did (row missUnused i 0 0) [] (filled p i page write pin)) (settledMiss (lowestUnused p)) (row missUnused i 0 0) (free p page write pin i e) (rw e)
           (settled-way (row missUnused i 0 0) (did (row missUnused i 0 0) [] (filled p i page write pin)) (λ q. omega arith) refl (entered-free p z i (unused-few p i (made p s) e) page kind) refl)
       go Nothing e =
-          same-way (missOf p page write pin) (evictionOf p page write pin) (settledMiss p) (row missClean 0 0 0) (full p page write pin e) (rw e)
+          same-way (missOf p page write pin) (evictionOf p page write pin) (settledMiss (lowestUnused p)) (row missClean 0 0 0) (full p page write pin e) (rw e)
           (λ ne. absurd (ne refl), λ _. room-works)
 
   reference-way : Way p (referenceOf p page write pin) (settledReference p page pin) page kind
@@ -114,8 +114,8 @@ module _ (p : Pool) (s : Sound p) (z : Sized p) (page kind : ℕ) where
   reference-way = limited (leb referenceLimit (p .k)) refl
     where
       found : (f : Found) → leb referenceLimit (p .k) ≡ false → findPage (p .frames) page ≡ f → Way p (referenceOf p page write pin) (settledReference p page pin) page kind
-      found (At i) e a = same-way (referenceOf p page write pin) (hitOf p i write pin) (settledReference p page pin) (settledHit p i pin) (resident p page write pin i e a) (rw (e, a)) (hit-way i (found-few (p .frames) page i a))
-      found Nothing e a = same-way (referenceOf p page write pin) (missOf p page write pin) (settledReference p page pin) (settledMiss p) (absent p page write pin e a) (rw (e, a)) miss-way
+      found (At i) e a = same-way (referenceOf p page write pin) (hitOf p i write pin) (settledReference p page pin) (settledHit (pinsAt p i) i pin) (resident p page write pin i e a) (rw (e, a)) (hit-way i (found-few (p .frames) page i a))
+      found Nothing e a = same-way (referenceOf p page write pin) (missOf p page write pin) (settledReference p page pin) (settledMiss (lowestUnused p)) (absent p page write pin e a) (rw (e, a)) miss-way
 
       limited : (b : Bool) → leb referenceLimit (p .k) ≡ b → Way p (referenceOf p page write pin) (settledReference p page pin) page kind
       limited true e = same-way (referenceOf p page write pin) (refusal p noReferenceLeft) (settledReference p page pin) (refusedRow noReferenceLeft) (at-limit p page write pin e) (rw e) (refused-way noReferenceLeft)

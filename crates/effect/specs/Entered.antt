@@ -7,6 +7,8 @@ use mathlib.Core.List.{List, []}
 use lib.ListN.{length, set}
 use lib.Seq.{sets}
 use lib.Dec.{eqb, leb}
+use Rattle.search.specs.declared.Found.{Found}
+use Rattle.search.specs.declared.Found.the-variants.{At}
 use Rattle.search.specs.Search.{pick, onFound, oneIf}
 use Rattle.refusal.specs.Refusals.{badField, noReferenceLeft, noFrame, notPinned, pinsFull}
 use Rattle.pool.specs.declared.Frame.{Frame}
@@ -24,18 +26,22 @@ use Rattle.effect.specs.declared.Room.{Room}
 use Rattle.effect.specs.declared.Effect.{Effect}
 use Rattle.effect.specs.Record.{pinLimit, pinsAt}
 
+-- what was found is a frame
+abbrev pub Framed : Found → Type 0
+Framed f = (i : ℕ) → f ≡ At i → i < 128
+
+-- a hit in frame i, which has so many pins
+abbrev pub settledHit : ℕ → ℕ → Bool → Row
+settledHit pins i pin = pick (pin && eqb pins pinLimit) (refusedRow pinsFull) (row hit i 0 0)
+
+-- a miss: in an unused frame, or a victim is wanted
+abbrev pub settledMiss : Found → Row
+settledMiss free = onFound free (λ i. row missUnused i 0 0) (row missClean 0 0 0)
+
 module _ (p : Pool) where
-  -- a hit in frame i
-  abbrev pub settledHit : ℕ → Bool → Row
-  settledHit i pin = pick (pin && eqb (pinsAt p i) pinLimit) (refusedRow pinsFull) (row hit i 0 0)
-
-  -- a miss: in an unused frame, or a victim is wanted
-  abbrev pub settledMiss : Row
-  settledMiss = onFound (lowestUnused p) (λ i. row missUnused i 0 0) (row missClean 0 0 0)
-
   -- a reference
   unfoldable pub settledReference : ℕ → Bool → Row
-  settledReference page pin = pick (leb referenceLimit (p .k)) (refusedRow noReferenceLeft) (onFound (findPage (p .frames) page) (λ i. settledHit i pin) settledMiss)
+  settledReference page pin = pick (leb referenceLimit (p .k)) (refusedRow noReferenceLeft) (onFound (findPage (p .frames) page) (λ i. settledHit (pinsAt p i) i pin) (settledMiss (lowestUnused p)))
 
   -- an unpin
   unfoldable pub settledUnpin : ℕ → Row

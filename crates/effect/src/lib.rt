@@ -14,7 +14,7 @@ ghost use Rattle.reference.specs.Reference.{withPins};
 ghost use Rattle.tally.specs.Rows.{row, missClean, missDirty};
 ghost use Rattle.effect.specs.Record.{recordOf};
 ghost use Rattle.effect.specs.Effect.{Leaves, Plays};
-ghost use Rattle.effect.specs.Entered.{settledHit, settledMiss, settledReference, settledUnpin, settledOf, roomRow, roomPages, roomed, RoomMade, pinsWith, hitFrame, fetchedFrame, enteringFrame, Enterable, entered, workedOf};
+ghost use Rattle.effect.specs.Entered.{settledHit, settledMiss, settledReference, settledUnpin, settledOf, roomRow, roomPages, roomed, RoomMade, Framed, pinsWith, hitFrame, fetchedFrame, enteringFrame, Enterable, entered, workedOf};
 
 // A record's row, and the pool afterwards.
 pub struct Effect {
@@ -47,30 +47,28 @@ fn row_at(outcome: u32, frame: usize) -> Row
 }
 
 // A hit in frame i, or refusal 12.
-fn settle_hit(p: Pool, i: usize, pin: bool) -> Row
+fn settle_hit(pins: u8, i: usize, pin: bool) -> Row
     requires { ⌜ i < 128 ⌝ }
-    ensures { λ r. ⌜ (r ≡ settledHit p i pin) × (r .frame < 128) ⌝ }
+    ensures { λ r. ⌜ (r ≡ settledHit pins i pin) × (r .frame < 128) ⌝ }
 {
-    let fr = p.frames[i];
-    if pin & (fr.pins == PIN_LIMIT) {
+    if pin & (pins == PIN_LIMIT) {
         return tally::refused_row(refusal::PINS_FULL);
     }
     row_at(tally::HIT, i)
 }
 
 // A miss in the lowest unused frame; with none, a victim is wanted, and nothing is known of it yet.
-fn settle_miss(p: Pool) -> Row
-    requires { ⌜ soundPool p ≡ true ⌝ }
-    ensures { λ r. ⌜ (r ≡ settledMiss p) × (r .frame < 128) ⌝ }
+fn settle_miss(free: Found) -> Row
+    requires { ⌜ Framed free ⌝ }
+    ensures { λ r. ⌜ (r ≡ settledMiss free) × (r .frame < 128) ⌝ }
 {
-    let free = reference::lowest_unused(p);
     let Found::At(i) = free else {
         return row_at(tally::MISS_CLEAN, 0);
     };
     row_at(tally::MISS_UNUSED, i)
 }
 
-// A read, a write or a pin.
+// A read, a write or a pin. The pool is only searched here: handed on, it would be copied.
 fn settle_reference(p: Pool, page: u32, pin: bool) -> Row
     requires { ⌜ soundPool p ≡ true ⌝ }
     ensures { λ r. ⌜ (r ≡ settledReference p page pin) × (r .frame < 128) ⌝ }
@@ -80,9 +78,11 @@ fn settle_reference(p: Pool, page: u32, pin: bool) -> Row
     }
     let at_page = reference::find(p, page);
     let Found::At(i) = at_page else {
-        return settle_miss(p);
+        let free = reference::lowest_unused(p);
+        return settle_miss(free);
     };
-    settle_hit(p, i, pin)
+    let fr = p.frames[i];
+    settle_hit(fr.pins, i, pin)
 }
 
 // An unpin: no reference.
