@@ -173,7 +173,7 @@ fn say_value(p: Pool, i: usize) {
 fn say_unused(p: Pool) {
     if p.settings.frames <= 128 {
         say(b"unused");
-        say_found(reference::lowest_unused(p));
+        say_found(reference::free_for(p, Found::Nothing));
     } else {
         say(b"skipped");
     }

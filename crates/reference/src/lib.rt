@@ -6,9 +6,9 @@ ghost use mathlib.Core.Path.{_≡_};
 ghost use mathlib.Core.Bool.{true};
 ghost use Prim.Native.Nat.{_+_, _*_, _<_, _≤_};
 ghost use lib.ListN.{length};
-ghost use Rattle.search.specs.Search.{pick};
+ghost use Rattle.search.specs.Search.{pick, onFound};
 ghost use Rattle.pool.specs.Sound.{holdsPage};
-ghost use Rattle.reference.specs.Search.{findPage, lowestUnused};
+ghost use Rattle.reference.specs.Search.{findPage, freeFor};
 ghost use Rattle.reference.specs.Logs.{putFront, cleared, grown, stays, lengthWith, logWith};
 ghost use Rattle.reference.specs.Reference.{Referable, raised, referred, hitAt, fetchedAt, pinnedAt, unpinnedAt};
 ghost use Rattle.pool.specs.Pool.{frameAt};
@@ -35,14 +35,24 @@ pub fn find(p: Pool, page: u32) -> Found
     Found::Nothing
 }
 
-// The lowest unused frame below f.
-pub fn lowest_unused(p: Pool) -> Found
-    requires { ⌜ p .settings .frames ≤ 128 ⌝ }
-    ensures { λ r. ⌜ r ≡ lowestUnused p ⌝ }
+// How many frames to look through for an unused one: none where the page was found.
+fn to_look_through(found: Found, f: usize) -> usize
+    ensures { λ r. ⌜ r ≡ onFound found (λ _. 0) f ⌝ }
 {
-    let f = p.settings.frames as usize;
+    match found {
+        Found::At(_) => 0,
+        Found::Nothing => f,
+    }
+}
+
+// The lowest unused frame below f, looked for only where the page was not found.
+pub fn free_for(p: Pool, found: Found) -> Found
+    requires { ⌜ p .settings .frames ≤ 128 ⌝ }
+    ensures { λ r. ⌜ r ≡ freeFor p found ⌝ }
+{
+    let n = to_look_through(found, p.settings.frames as usize);
     let mut i: usize = 0;
-    while i < f {
+    while i < n {
         let fr = p.frames[i];
         if fr.used {
             i += 1;

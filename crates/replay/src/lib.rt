@@ -146,7 +146,10 @@ fn count(pool: Pool, tally: Tally, bytes: &[u8], summary: Summary) -> Ended
     let mut i: usize = 0;
     while i < n {
         let record = trace::record_at(bytes, summary, i);
-        let mut row = effect::settle(q, record.page, record.kind);
+        let found = reference::find(q, record.page);
+        let free = reference::free_for(q, found);
+        let old = q.frames[effect::place_of(found)];
+        let mut row = effect::settle(q.k, found, old.pins, free, record.kind);
         if row.outcome == tally::MISS_CLEAN {
             let room = effect::make_room(q, &mut scratch, 0);
             let frames = room.frames;
