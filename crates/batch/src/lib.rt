@@ -205,11 +205,11 @@ pub fn write(p: Pool, v: usize, out: &mut [u32], at: usize) -> Written
     requires { ⌜ Batchable p v at (length (now out)) ⌝ }
     ensures { λ r. ⌜ WrittenBy p v at r (now (out .entry)) (now (out .exit)) ⌝ }
 {
-    let fr = p.frames[v];
+    let frames = p.frames;
+    let fr = frames[v];
     if fr.dirty {
         return write_dirty(p, v, out, at);
     }
-    let frames = p.frames;
     Written {
         frames: frames,
         count: 0,

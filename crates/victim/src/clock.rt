@@ -64,13 +64,13 @@ fn sweep(p: Pool) -> Choice
 }
 
 // The lowest unpinned frame below f.
-fn any_unpinned(p: Pool, f: usize) -> Found
+fn any_unpinned(frames: [Frame; 128], f: usize) -> Found
     requires { ⌜ f ≤ 128 ⌝ }
-    ensures { λ r. ⌜ r ≡ anyUnpinned (p .frames) f ⌝ }
+    ensures { λ r. ⌜ r ≡ anyUnpinned frames f ⌝ }
 {
     let mut i: usize = 0;
     while i < f {
-        let fr = p.frames[i];
+        let fr = frames[i];
         if fr.pins == 0 {
             return Found::At(i);
         }
@@ -85,7 +85,8 @@ pub fn choose(p: Pool) -> Choice
     ensures { λ r. ⌜ r ≡ clockChoice p ⌝ }
 {
     let f = p.settings.frames as usize;
-    let free = any_unpinned(p, f);
+    let frames = p.frames;
+    let free = any_unpinned(frames, f);
     match free {
         Found::At(_) => sweep(p),
         Found::Nothing => crate::unmoved(p, Found::Nothing),

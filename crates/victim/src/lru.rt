@@ -18,21 +18,21 @@ fn older(fr: Frame, than: Frame) -> bool
 }
 
 // The unpinned frame below f with the least last step, the lowest on a tie.
-fn victim(p: Pool, f: usize) -> Found
+fn victim(frames: [Frame; 128], f: usize) -> Found
     requires { ⌜ f ≤ 128 ⌝ }
-    ensures { λ r. ⌜ r ≡ lruVictim (p .frames) f ⌝ }
+    ensures { λ r. ⌜ r ≡ lruVictim frames f ⌝ }
 {
     let mut best = Found::Nothing;
     let mut i: usize = 0;
     while i < f {
-        let fr = p.frames[i];
+        let fr = frames[i];
         if fr.pins == 0 {
             match best {
                 Found::Nothing => {
                     best = Found::At(i);
                 }
                 Found::At(b) => {
-                    let old = p.frames[b];
+                    let old = frames[b];
                     if older(fr, old) {
                         best = Found::At(i);
                     }
@@ -50,6 +50,7 @@ pub fn choose(p: Pool) -> Choice
     ensures { λ r. ⌜ r ≡ lruChoice p ⌝ }
 {
     let f = p.settings.frames as usize;
-    let v = victim(p, f);
+    let frames = p.frames;
+    let v = victim(frames, f);
     crate::unmoved(p, v)
 }

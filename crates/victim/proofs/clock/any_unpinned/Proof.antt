@@ -12,10 +12,10 @@ use Rattle.victim.proofs.clock.any_unpinned.Statement.{statement}
 use Rattle.victim.proofs.clock.any_unpinned.Tie as tie
 
 abbrev Inv-loop : tie.InvT-loop
-Inv-loop f p i₀ i = (i ≤ f) × (leastBelow (unpinned (p .frames)) never i ≡ Nothing)
+Inv-loop f frames i₀ i = (i ≤ f) × (leastBelow (unpinned frames) never i ≡ Nothing)
 
 abbrev μ-loop : tie.MeasureT-loop
-μ-loop f p i₀ i = f - i
+μ-loop f frames i₀ i = f - i
 
 loop-holds : tie.Need-loop-holds Inv-loop μ-loop
 loop-holds c = (search needs, least-zero _ _)

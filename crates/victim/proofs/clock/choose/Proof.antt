@@ -7,10 +7,10 @@ use Rattle.victim.proofs.clock.choose.Statement.{statement}
 use Rattle.victim.proofs.clock.choose.Tie as tie
 
 any-unpinned-requires : tie.Need-any-unpinned-requires
-any-unpinned-requires c κs = ranges _ (told _ (c .before .pre) .settings) .frames .1
+any-unpinned-requires c κs = ranges _ (told _ (c .before .before .pre) .settings) .frames .1
 
 sweep-requires : tie.Need-sweep-requires
-sweep-requires c κs = (c .before .before .before .before .pre, some-free (c .before .before .before .before .args .p) _ (sym (c .before .before .any-unpinned .ensures) ∙ c .enum-told .given .1))
+sweep-requires c κs = (c .before .before .before .before .before .pre, some-free (c .before .before .before .before .before .args .p) _ (sym (c .before .before .any-unpinned .ensures) ∙ c .enum-told .given .1))
 
 returns : tie.Need-returns
 returns c = way-swept _ _ _ (sym (c .before .before .before .any-unpinned .ensures) ∙ c .before .enum-told .given .1) (c .sweep .ensures)

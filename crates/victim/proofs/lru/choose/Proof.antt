@@ -8,11 +8,11 @@ use Rattle.victim.proofs.lru.choose.Statement.{statement}
 use Rattle.victim.proofs.lru.choose.Tie as tie
 
 victim-requires : tie.Need-victim-requires
-victim-requires c κs = ranges _ (told _ (c .before .pre) .settings) .frames .1
+victim-requires c κs = ranges _ (told _ (c .before .before .pre) .settings) .frames .1
 
 returns : tie.Need-returns
 unfolding lruChoice
-returns c = c .unmoved .ensures ∙ ap (unmoved (c .before .before .before .args .p)) (c .before .victim .ensures)
+returns c = c .unmoved .ensures ∙ ap (unmoved (c .before .before .before .before .args .p)) (c .before .victim .ensures)
 
 pub choose-spec : {M : Type 1} → statement M
 choose-spec = tie.close

@@ -12,10 +12,10 @@ use Rattle.victim.proofs.lru.victim.Statement.{statement}
 use Rattle.victim.proofs.lru.victim.Tie as tie
 
 abbrev Inv-loop : tie.InvT-loop
-Inv-loop f p best₀ i₀ best i = (i ≤ f) × (best ≡ leastBelow (unpinned (p .frames)) (older (p .frames)) i)
+Inv-loop f frames best₀ i₀ best i = (i ≤ f) × (best ≡ leastBelow (unpinned frames) (older frames) i)
 
 abbrev μ-loop : tie.MeasureT-loop
-μ-loop f p best₀ i₀ best i = f - i
+μ-loop f frames best₀ i₀ best i = f - i
 
 loop-holds : tie.Need-loop-holds Inv-loop μ-loop
 loop-holds c = (search needs, sym (least-zero _ _))
@@ -35,8 +35,8 @@ b-below c =
 mul-old : tie.Need-mul-old Inv-loop μ-loop
 mul-old c = let h = b-below c in omega arith
 
-element-copy-out-old : tie.Need-element-copy-out-old Inv-loop μ-loop
-element-copy-out-old c = b-below c
+array-copy-out-old : tie.Need-array-copy-out-old Inv-loop μ-loop
+array-copy-out-old c = b-below c
 
 loop-again : tie.Need-loop-again Inv-loop μ-loop
 loop-again c =
@@ -57,4 +57,4 @@ pub victim-spec : {M : Type 1} → statement M
 victim-spec =
     tie.close
     (tie.spec Inv-loop μ-loop loop-holds (λ c. search needs) (λ c. search needs) enum-told enum-known-best mul-old
-    element-copy-out-old (λ c κs. search needs) (λ c. search needs) (λ c. search needs) loop-again returns)
+    array-copy-out-old (λ c κs. search needs) (λ c. search needs) (λ c. search needs) loop-again returns)
