@@ -283,9 +283,10 @@ pub fn play(p: Pool, page: u32, kind: u16, out: &mut [u32], at: usize) -> Effect
     requires { ⌜ Plays p (recordOf p page kind) at (length (now out)) ⌝ }
     ensures { λ r. ⌜ Leaves (recordOf p page kind) at r (now (out .entry)) (now (out .exit)) ⌝ }
 {
-    let found = reference::find(p, page);
-    let free = reference::free_for(p, found);
-    let fr = p.frames[place_of(found)];
+    let frames = p.frames;
+    let found = reference::find(frames, page);
+    let free = reference::free_for(frames, p.settings.frames, found);
+    let fr = frames[place_of(found)];
     let row = settle(p.k, found, fr.pins, free, kind);
     if row.outcome == tally::MISS_CLEAN {
         return play_full(p, page, kind, out, at);

@@ -26,6 +26,10 @@ unused fs i = not (frameAt fs i .used)
 unfoldable pub lowestUnused : Pool → Found
 lowestUnused p = leastBelow (unused (p .frames)) never (p .settings .frames)
 
--- the lowest unused frame below f, looked for only where a page was not found
+-- the lowest unused of some frames below f, looked for only where a page was not found
+abbrev pub freeIn : List Frame → ℕ → Found → Found
+freeIn fs f found = onFound found (λ _. Nothing) (leastBelow (unused fs) never f)
+
+-- of a pool
 abbrev pub freeFor : Pool → Found → Found
 freeFor p found = onFound found (λ _. Nothing) (lowestUnused p)

@@ -12,13 +12,13 @@ use Rattle.reference.proofs.free_for.Statement.{statement}
 use Rattle.reference.proofs.free_for.Tie as tie
 
 abbrev Inv-loop : tie.InvT-loop
-Inv-loop p n i₀ i = (i ≤ n) × (n ≤ 128) × (leastBelow (unused (p .frames)) never i ≡ Nothing)
+Inv-loop f frames n i₀ i = (i ≤ n) × (n ≤ 128) × (leastBelow (unused frames) never i ≡ Nothing)
 
 abbrev μ-loop : tie.MeasureT-loop
-μ-loop p n i₀ i = n - i
+μ-loop f frames n i₀ i = n - i
 
 loop-holds : tie.Need-loop-holds Inv-loop μ-loop
-loop-holds c = (search needs, bound-few (c .before .args .t1) (c .before .args .found) _ (c .to-look-through .ensures) (c .before .pre), least-zero _ _)
+loop-holds c = (search needs, bound-few (c .before .args .t1) (c .before .args .f) (c .before .args .found) _ (c .to-look-through .ensures) (c .before .pre), least-zero _ _)
 
 loop-again : tie.Need-loop-again Inv-loop μ-loop
 loop-again c = let l = c .before .before .before .loop .inv in (search needs, l .1, least-skip _ _ _ (ap not (c .if1 .taken)) ∙ l .2)
@@ -27,13 +27,13 @@ returns : tie.Need-returns Inv-loop μ-loop
 returns c =
     let l = c .before .before .before in
     let a = l .before .before .args in
-    free-found (a .t1) (a .found) _ _ (l .before .to-look-through .ensures) (c .before .before .loop-test .taken) (l .loop .inv .2) (ap not (c .if1 .left))
+    free-found (a .t1) (a .f) (a .found) _ _ (l .before .to-look-through .ensures) (c .before .before .loop-test .taken) (l .loop .inv .2) (ap not (c .if1 .left))
 
 returns-2 : tie.Need-returns-2 Inv-loop μ-loop
 returns-2 c =
     let l = c .before in
     let a = l .before .before .args in
-    free-none (a .t1) (a .found) _ _ (l .before .to-look-through .ensures) (omega arith) (l .loop .inv .2)
+    free-none (a .t1) (a .f) (a .found) _ _ (l .before .to-look-through .ensures) (omega arith) (l .loop .inv .2)
 
 pub free-for-spec : {M : Type 1} → statement M
 free-for-spec =
@@ -41,7 +41,6 @@ free-for-spec =
     (tie.spec
     Inv-loop
     μ-loop
-    (λ c. search needs)
     (λ c κs. search needs)
     loop-holds
     (λ c. let l = c .before .loop .inv in let t = c .loop-test .taken in omega arith)
