@@ -9,7 +9,7 @@ use lib.Dec.{eqb, leb}
 use borrow.Author.Tests.{le-leb, lt-leb}
 use Rattle.search.specs.declared.Found.{Found}
 use Rattle.search.specs.declared.Found.the-variants.{At, Nothing}
-use Rattle.search.specs.Search.{pick, never}
+use Rattle.search.specs.Search.{never}
 use Rattle.search.proofs.Least.{least-none, least-none-of}
 use Rattle.search.proofs.Every.{pick-ind, undenied}
 use Rattle.refusal.specs.Refusals.{badField, noReferenceLeft, noFrame, notPinned, pinsFull}
@@ -20,11 +20,10 @@ use Rattle.reference.specs.Reference.{referred, hitAt, fetchedAt, pinnedAt}
 use Rattle.victim.specs.Choice.{leftBy}
 use Rattle.victim.specs.Choice as choice
 use Rattle.victim.specs.Rules.{choiceOf}
-use Rattle.victim.proofs.Owed.{AllPinned}
 use Rattle.victim.proofs.Rules.{choice-owes}
 use Rattle.batch.specs.Batch.{batchOf, cleaned, withFrames}
-use Rattle.tally.specs.Rows.{row, hit, missUnused, missClean, missDirty, refusedBy}
-use Rattle.effect.specs.Record.{Did, did, pinLimit, pinsAt, refusal, pinnedWhere, filled, hitOf, leavingOf, evictionOf, missOf, referenceOf, unpinOf, recordOf}
+use Rattle.tally.specs.Rows.{row, hit, missClean, missDirty, refusedBy}
+use Rattle.effect.specs.Record.{Did, did, pinLimit, pinsAt, refusal, pinnedWhere, filled, leavingOf, missOf, referenceOf, unpinOf, recordOf}
 use Rattle.effect.proofs.Ways.{at-limit, resident, absent, free, full, victim, no-victim, pins-full, pins-free, unpin-absent, unpin-none, unpin-one}
 
 -- an accepted reference: its outcome is a hit or a miss, and k rises by 1

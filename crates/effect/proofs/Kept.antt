@@ -10,11 +10,10 @@ use borrow.Author.Tests.{leb-false}
 use Rattle.refusal.specs.Refusals.{badField, noReferenceLeft, noFrame, notPinned, pinsFull}
 use Rattle.search.specs.declared.Found.{Found}
 use Rattle.search.specs.declared.Found.the-variants.{At, Nothing}
-use Rattle.search.specs.Search.{pick, oneIf}
+use Rattle.search.specs.Search.{oneIf}
 use Rattle.search.proofs.Every.{pick-ind}
 use Rattle.settings.specs.declared.Settings.{Settings}
 use Rattle.settings.proofs.Laws.{ranges}
-use Rattle.pool.specs.declared.Frame.{Frame}
 use Rattle.pool.specs.declared.Pool.{Pool}
 use Rattle.pool.specs.Pool.{referenceLimit, frameAt}
 use Rattle.pool.proofs.Sound.{Sound, made}

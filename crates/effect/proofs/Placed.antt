@@ -1,21 +1,21 @@
 -- Frames and logs changed in place are those of a hit, a fetch, a pin and an unpin.
-use mathlib.Core.Path.{_≡_, refl, ap, sym, subst, _∙_}
-use mathlib.Core.Bool.{Bool, true, false, _&&_, _||_, not}
+use mathlib.Core.Path.{_≡_, refl, ap, sym, _∙_}
+use mathlib.Core.Bool.{Bool, true, false, _&&_, _||_}
 use mathlib.Core.List.{List, [], _∷_}
 use Prim.Native.Nat.{ℕ, zero, suc, _+_, _-_, _*_, _≤_, _<_}
 use native.Mathlib.Omega.{arith}
 use native.Mathlib.Nat.{add-zero}
-use lib.ListN.{length, set, getD, length-set}
+use lib.ListN.{set}
 use lib.Seq.{getD-set-same, set-set}
-use lib.Dec.{eqb, leb}
+use lib.Dec.{eqb}
 use borrow.Author.Tests.{le-leb, lt-leb}
 use Rattle.search.specs.Search.{pick, oneIf}
 use Rattle.pool.specs.declared.Frame.{Frame}
 use Rattle.pool.specs.declared.Pool.{Pool}
 use Rattle.pool.specs.Pool.{emptyFrame, frameAt, nowOf, withCount}
 use Rattle.pool.proofs.Sizes.{Sized}
-use Rattle.reference.specs.Logs.{cleared, lengthWith, logWith}
-use Rattle.reference.specs.Reference.{withFrame, withPins, raised, newFrame, referredFrame, referred, emptied, hitAt, fetchedAt, pinnedAt, unpinnedAt}
+use Rattle.reference.specs.Logs.{lengthWith, logWith}
+use Rattle.reference.specs.Reference.{withPins, raised, newFrame, referred, hitAt, fetchedAt, pinnedAt, unpinnedAt}
 use Rattle.tally.specs.declared.Row.{Row}
 use Rattle.tally.specs.Rows.{row, hit, missUnused, missClean, missDirty, unpinned}
 use Rattle.effect.specs.Record.{pinLimit, pinsAt, pinnedWhere, filled}

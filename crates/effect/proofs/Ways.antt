@@ -1,18 +1,15 @@
 -- The ways through a record, over variables.
-use mathlib.Core.Path.{_≡_, refl, sym, subst, _∙_}
+use mathlib.Core.Path.{_≡_}
 use mathlib.Core.Bool.{Bool, true, false, _&&_}
 use mathlib.Core.List.{List, []}
-use Prim.Native.Nat.{ℕ, zero, suc, _+_, _≤_, _<_}
+use Prim.Native.Nat.{ℕ, _<_}
 use native.Mathlib.Omega.{arith}
-use lib.ListN.{length}
 use lib.Dec.{eqb, leb}
 use Rattle.search.specs.declared.Found.the-variants.{At, Nothing}
-use Rattle.search.specs.declared.Found.{Found}
-use Rattle.search.specs.Search.{pick, onFound, never}
-use Rattle.search.proofs.Every.{pick-ind}
+use Rattle.search.specs.Search.{never}
 use Rattle.search.proofs.Least.{least-sound}
 use Rattle.settings.proofs.Laws.{ranges}
-use Rattle.refusal.specs.Refusals.{badField, noReferenceLeft, noFrame, notPinned, pinsFull}
+use Rattle.refusal.specs.Refusals.{noReferenceLeft, noFrame, notPinned, pinsFull}
 use Rattle.pool.specs.declared.Frame.{Frame}
 use Rattle.pool.specs.declared.Pool.{Pool}
 use Rattle.pool.specs.Pool.{referenceLimit}
@@ -24,9 +21,7 @@ use Rattle.victim.specs.declared.Choice.{Choice}
 use Rattle.victim.specs.Choice.{leftBy}
 use Rattle.victim.specs.Rules.{choiceOf}
 use Rattle.tally.specs.Rows.{row, hit, missUnused, unpinned}
-use Rattle.effect.specs.declared.Effect.{Effect}
-use Rattle.effect.specs.Record.{Did, did, pinLimit, pinsAt, refusal, pinnedWhere, filled, hitOf, leavingOf, evictionOf, missOf, referenceOf, unpinOf, recordOf}
-use Rattle.effect.specs.Effect.{effectOf, Leaves, Plays}
+use Rattle.effect.specs.Record.{did, pinLimit, pinsAt, refusal, pinnedWhere, filled, hitOf, leavingOf, evictionOf, missOf, referenceOf, unpinOf}
 
 module _ (p : Pool) (page : ℕ) (write pin : Bool) where
   pub at-limit : leb referenceLimit (p .k) ≡ true → referenceOf p page write pin ≡ refusal p noReferenceLeft
@@ -79,31 +74,6 @@ module _ (p : Pool) (page : ℕ) where
   unfolding unpinOf
   unpin-one i a e = rw (a, e)
 
-  -- the kinds
-  pub kind-read : (kind : ℕ) → kind ≡ 0 → recordOf p page kind ≡ referenceOf p page false false
-  unfolding recordOf
-  kind-read kind e = rw e
-
-  pub kind-write : (kind : ℕ) → kind ≡ 1 → recordOf p page kind ≡ referenceOf p page true false
-  unfolding recordOf
-  kind-write kind e = rw e
-
-  pub kind-pin : (kind : ℕ) → kind ≡ 2 → recordOf p page kind ≡ referenceOf p page false true
-  unfolding recordOf
-  kind-pin kind e = rw e
-
-  pub kind-unpin : (kind : ℕ) → kind ≡ 3 → recordOf p page kind ≡ unpinOf p page
-  unfolding recordOf
-  kind-unpin kind e = rw e
-
-  pub kind-bad : (kind : ℕ) → 4 ≤ kind → recordOf p page kind ≡ refusal p badField
-  unfolding recordOf
-  kind-bad zero l = absurd (omega arith)
-  kind-bad (suc zero) l = absurd (omega arith)
-  kind-bad (suc (suc zero)) l = absurd (omega arith)
-  kind-bad (suc (suc (suc zero))) l = absurd (omega arith)
-  kind-bad (suc (suc (suc (suc kind)))) l = refl
-
 -- what is found is a frame
 pub found-few : (fs : List Frame) (page i : ℕ) → findPage fs page ≡ At i → i < 128
 unfolding findPage
@@ -115,30 +85,3 @@ unused-few p i s e =
     let l = least-sound (unused (p .frames)) never (p .settings .frames) i e .0 in
     let f = ranges (p .settings) (told p s .settings) .frames .1 in
     omega arith
-
--- what holds of one way holds of the other
-pub plays-as : (p : Pool) (d e : Did) (at places : ℕ) → d ≡ e → Plays p d at places → Plays p e at places
-plays-as p d e at places h = subst (λ (x : Did). Plays p x at places) h
-
-pub leaves-as : (d e : Did) (at : ℕ) (r : Effect) (before after : List ℕ) → d ≡ e → Leaves e at r before after → Leaves d at r before after
-leaves-as d e at r before after h = subst (λ (x : Did). Leaves x at r before after) (sym h)
-
-pub effect-as : (d e : Did) (r : Effect) → d ≡ e → r ≡ effectOf e → r ≡ effectOf d
-effect-as d e r h x = x ∙ sym (rw h)
-
--- no page is written
-pub unwritten : (d e : Did) (at : ℕ) (r : Effect) (list : List ℕ) → d ≡ e → e .written ≡ [] → r ≡ effectOf e → Leaves d at r list list
-unwritten d e at r list h w x = leaves-as d e at r list list h (record { effect = x; list = rw w })
-
-pub hit-unwritten : (p : Pool) (i : ℕ) (write pin : Bool) → hitOf p i write pin .written ≡ []
-unfolding hitOf
-hit-unwritten p i write pin =
-    pick-ind (λ (d : Did). d .written ≡ []) (pin && eqb (pinsAt p i) pinLimit) (refusal p pinsFull) (did (row hit i 0 0) [] (pinnedWhere (hitAt p i write) pin i)) (λ _. refl) (λ _. refl)
-
-pub unpin-unwritten : (p : Pool) (page : ℕ) → unpinOf p page .written ≡ []
-unfolding unpinOf
-unpin-unwritten p page = go (findPage (p .frames) page)
-  where
-    go : (f : Found) → onFound f (λ i. pick (eqb (pinsAt p i) 0) (refusal p notPinned) (did (row unpinned i 0 0) [] (unpinnedAt p i))) (refusal p notPinned) .written ≡ []
-    go (At i) = pick-ind (λ (d : Did). d .written ≡ []) (eqb (pinsAt p i) 0) (refusal p notPinned) (did (row unpinned i 0 0) [] (unpinnedAt p i)) (λ _. refl) (λ _. refl)
-    go Nothing = refl

@@ -7,10 +7,8 @@ use native.Mathlib.Omega.{arith}
 use lib.ListN.{length}
 use lib.Seq.{sets}
 use lib.Dec.{eqb, leb}
-use borrow.Author.Tests.{leb-false}
 use Rattle.search.specs.declared.Found.{Found}
 use Rattle.search.specs.declared.Found.the-variants.{At, Nothing}
-use Rattle.search.specs.Search.{pick, onFound}
 use Rattle.refusal.specs.Refusals.{badField, noReferenceLeft, noFrame, notPinned, pinsFull}
 use Rattle.settings.proofs.Laws.{ranges}
 use Rattle.pool.specs.declared.Pool.{Pool}
@@ -20,14 +18,13 @@ use Rattle.pool.proofs.Sound.{Sound, told, made}
 use Rattle.pool.proofs.Sizes.{Sized}
 use Rattle.reference.specs.Search.{findPage, lowestUnused, freeFor}
 use Rattle.reference.specs.Reference.{hitAt, unpinnedAt}
-use Rattle.victim.specs.declared.Choice.{Choice}
 use Rattle.victim.specs.Choice.{leftBy}
 use Rattle.victim.specs.Rules.{choiceOf}
 use Rattle.victim.proofs.Rules.{choice-owes, choice-sized}
-use Rattle.batch.specs.Batch.{batchOf, cleaned, pagesOf, withFrames}
+use Rattle.batch.specs.Batch.{batchOf, cleaned, withFrames}
 use Rattle.batch.proofs.Laws.{batch-sized}
 use Rattle.tally.specs.declared.Row.{Row}
-use Rattle.tally.specs.Rows.{row, hit, missUnused, missClean, missDirty, unpinned, refusedRow}
+use Rattle.tally.specs.Rows.{row, hit, missUnused, missClean, unpinned, refusedRow}
 use Rattle.effect.specs.Record.{Did, did, pinLimit, pinsAt, refusal, pinnedWhere, filled, hitOf, leavingOf, evictionOf, missOf, referenceOf, unpinOf, recordOf}
 use Rattle.effect.specs.declared.Effect.{Effect}
 use Rattle.effect.specs.declared.Room.{Room}

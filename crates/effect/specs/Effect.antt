@@ -1,12 +1,11 @@
 -- What the functions ask for and leave.
-use Prim.Native.Nat.{ℕ, _+_, _≤_, _<_}
+use Prim.Native.Nat.{ℕ, _+_, _≤_}
 use mathlib.Core.Path.{_≡_}
 use mathlib.Core.Bool.{true}
 use mathlib.Core.List.{List}
 use lib.ListN.{length}
 use lib.Seq.{sets}
 use Rattle.pool.specs.declared.Pool.{Pool}
-use Rattle.pool.specs.Pool.{referenceLimit}
 use Rattle.pool.specs.Sound.{soundPool}
 use Rattle.effect.specs.declared.Effect.{Effect}
 use Rattle.effect.specs.Record.{Did}

@@ -1,24 +1,19 @@
 -- Replay to counts from a fresh pool: it is not refused, and what is stored.
-use mathlib.Core.Path.{_≡_, refl, ap, sym, _∙_}
-use mathlib.Core.Bool.{Bool, true, false}
+use mathlib.Core.Path.{_≡_, refl, ap, _∙_}
+use mathlib.Core.Bool.{true}
 use mathlib.Core.List.{List}
 use Prim.Native.Nat.{ℕ, zero, suc, _≤_, _<_}
-use native.Mathlib.Omega.{arith}
 use lib.ListN.{length}
 use lib.Seq.{sets}
-use lib.Dec.{leb}
 use borrow.Author.Tests.{le-leb, lt-leb}
-use Rattle.word.specs.declared.Order.{Order}
-use Rattle.refusal.specs.Refusals.{demand, orElse, noRoom}
-use Rattle.refusal.proofs.Laws.{or-first}
+use Rattle.refusal.specs.Refusals.{noRoom}
 use Rattle.settings.specs.declared.Settings.{Settings}
 use Rattle.settings.specs.Settings.{inRange}
 use Rattle.settings.proofs.Laws.{same-self}
 use Rattle.trace.specs.declared.Summary.{Summary}
 use Rattle.trace.specs.declared.Checked.the-variants.{Accepted, Refused}
-use Rattle.trace.specs.Check.{refusalOf, checkOf, traceOf, summaryOf}
+use Rattle.trace.specs.Check.{refusalOf, checkOf, traceOf}
 use Rattle.trace.proofs.Accept.{accepted, accepted-range, refused-is}
-use Rattle.pool.specs.declared.Pool.{Pool}
 use Rattle.pool.specs.declared.Opened.{Opened}
 use Rattle.pool.specs.Pool.{emptyPool, freshOf}
 use Rattle.pool.specs.Sound.{soundPool}
@@ -26,8 +21,7 @@ use Rattle.pool.proofs.Opening.{fresh-sound}
 use Rattle.tally.specs.declared.Tally.{Tally}
 use Rattle.tally.specs.Tally.{zeroTally, tallyWithin}
 use Rattle.replay.specs.declared.Ended.{Ended}
-use Rattle.replay.specs.Replay.{replayOf}
-use Rattle.replay.specs.Calls.{mayBegin, countsRefusal, endedOf, countsOf, unlessRefused}
+use Rattle.replay.specs.Calls.{mayBegin, countsRefusal, countsOf}
 use Rattle.host.specs.Counts.{countsLength, countBytes, freshCounts, hostRefusal, CountsInto}
 
 -- a fresh pool by settings in range

@@ -21,9 +21,6 @@ module _ (p : Pool) (z : Sized p) (i : ℕ) (l : i < 128) where
   unfolding hitAt referred
   hit-own write = getD-set-same (withFrame p i counted .frames) i (referredFrame (withFrame p i counted) i write) emptyFrame (rw (length-set (p .frames) i counted, z .frames) l)
 
-  pub hit-pins : (write : Bool) → frameAt (hitAt p i write .frames) i .pins ≡ frameAt (p .frames) i .pins
-  hit-pins write = ap (λ (fr : Frame). fr .pins) (hit-own write) ∙ ap (λ (fr : Frame). fr .pins) (own counted)
-
   pub hit-used : (write : Bool) → frameAt (hitAt p i write .frames) i .used ≡ frameAt (p .frames) i .used
   hit-used write = ap (λ (fr : Frame). fr .used) (hit-own write) ∙ ap (λ (fr : Frame). fr .used) (own counted)
 
@@ -34,9 +31,6 @@ module _ (p : Pool) (z : Sized p) (i : ℕ) (l : i < 128) where
     fetch-own : frameAt (fetchedAt p i page write .frames) i ≡ referredFrame (emptied p i page) i write
     unfolding fetchedAt referred
     fetch-own = getD-set-same (emptied p i page .frames) i (referredFrame (emptied p i page) i write) emptyFrame (rw (length-set (p .frames) i (newFrame page), z .frames) l)
-
-    pub fetch-pins : frameAt (fetchedAt p i page write .frames) i .pins ≡ 0
-    fetch-pins = ap (λ (fr : Frame). fr .pins) fetch-own ∙ ap (λ (fr : Frame). fr .pins) (own (newFrame page))
 
     pub fetch-used : frameAt (fetchedAt p i page write .frames) i .used ≡ true
     fetch-used = ap (λ (fr : Frame). fr .used) fetch-own ∙ ap (λ (fr : Frame). fr .used) (own (newFrame page))

@@ -1,12 +1,10 @@
 -- What a replay that may begin tells.
-use mathlib.Core.Path.{_≡_, refl, sym, _∙_}
-use mathlib.Core.Bool.{Bool, true, false, _&&_, and-eq-true-iff}
-use Prim.Native.Nat.{ℕ}
+use mathlib.Core.Path.{_≡_, refl}
+use mathlib.Core.Bool.{Bool, true, false, and-eq-true-iff}
 use lib.Dec.{eqb}
 use Rattle.refusal.specs.Refusals.{demand, notSound}
 use Rattle.pool.specs.declared.Pool.{Pool}
 use Rattle.pool.specs.Sound.{soundPool, checkOf}
-use Rattle.pool.proofs.Sound.{Sound, told}
 use Rattle.tally.specs.declared.Tally.{Tally}
 use Rattle.tally.specs.Tally.{tallyLimit, tallyWithin, Within}
 use Rattle.tally.proofs.Laws.{within-bound}

@@ -1,24 +1,23 @@
 -- The calls, over variables: which refusal, and what follows from it.
-use mathlib.Core.Path.{_≡_, refl, ap, sym, subst, _∙_}
+use mathlib.Core.Path.{_≡_, refl, ap, sym, _∙_}
 use mathlib.Core.Bool.{Bool, true, false}
-use mathlib.Core.List.{List, []}
-use Prim.Native.Nat.{ℕ, zero, suc, _+_, _*_, _≤_, _<_}
+use mathlib.Core.List.{List}
+use Prim.Native.Nat.{ℕ, zero, suc, _<_}
 use native.Mathlib.Omega.{arith}
 use lib.ListN.{length}
-use lib.Seq.{sets}
 use Rattle.refusal.specs.Refusals.{demand, orElse, noRoom, notSound, otherSettings}
 use Rattle.refusal.proofs.Laws.{met, or-first}
 use Rattle.settings.specs.declared.Settings.{Settings}
 use Rattle.settings.specs.Settings.{sameSettings}
 use Rattle.trace.specs.declared.Summary.{Summary}
 use Rattle.trace.specs.declared.Checked.the-variants.{Accepted, Refused}
-use Rattle.trace.specs.Check.{refusalOf, checkOf, traceOf}
+use Rattle.trace.specs.Check.{checkOf, traceOf}
 use Rattle.trace.proofs.Accept.{accepted, refused-is}
 use Rattle.pool.specs.declared.Pool.{Pool}
 use Rattle.tally.specs.declared.Tally.{Tally}
 use Rattle.replay.specs.declared.Ended.{Ended}
-use Rattle.replay.specs.Replay.{replayOf, numbersOf}
-use Rattle.replay.specs.Calls.{mayBegin, unlessRefused, roomFor, countsRefusal, replayRefusal, endedAs, endedOf, countsOf, RanInto, ReplayInto}
+use Rattle.replay.specs.Replay.{replayOf}
+use Rattle.replay.specs.Calls.{mayBegin, roomFor, countsRefusal, replayRefusal, endedAs, endedOf, countsOf, RanInto, ReplayInto}
 
 -- a demand is the first refusal, else what follows
 demand-or : (b : Bool) (r n : ℕ) → 0 < r → orElse (demand b r 0) n ≡ demand b r n

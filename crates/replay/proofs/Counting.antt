@@ -1,6 +1,6 @@
 -- What the loops know of record i, from what they ask for.
-use mathlib.Core.Path.{_≡_, refl, ap, sym, subst, _∙_}
-use mathlib.Core.Bool.{true, _&&_, and-eq-true-iff}
+use mathlib.Core.Path.{_≡_, ap, sym, subst}
+use mathlib.Core.Bool.{true, and-eq-true-iff}
 use mathlib.Core.List.{List}
 use Prim.Native.Nat.{ℕ, _+_, _*_, _≤_, _<_}
 use native.Mathlib.Omega.{arith}
@@ -21,7 +21,6 @@ use Rattle.pool.specs.Pool.{frameAt}
 use Rattle.pool.specs.Sound.{soundPool}
 use Rattle.pool.proofs.Sound.{Sound, told, made}
 use Rattle.pool.proofs.Sizes.{Sized}
-use Rattle.tally.specs.declared.Row.{Row}
 use Rattle.tally.specs.declared.Tally.{Tally}
 use Rattle.tally.specs.Tally.{tallyLimit, Within, Countable}
 use Rattle.tally.proofs.Laws.{within-more, within-countable}

@@ -1,13 +1,10 @@
 -- What holds after every record of a replay.
-use mathlib.Core.Path.{_≡_, refl, ap, sym, subst, _∙_}
-use mathlib.Core.Bool.{true}
-use mathlib.Core.List.{List, []}
+use mathlib.Core.Path.{_≡_, refl, sym, subst, _∙_}
 use Prim.Native.Nat.{ℕ, zero, suc, _+_, _*_, _≤_, _<_}
 use native.Mathlib.Omega.{arith}
 use lib.ListN.{length, length-append}
 use lib.Dec.{eqb}
 use Rattle.search.specs.Search.{oneIf}
-use Rattle.settings.specs.declared.Settings.{Settings}
 use Rattle.settings.proofs.Laws.{ranges}
 use Rattle.trace.specs.Layout.{Trace, writesIn, recordIn}
 use Rattle.pool.specs.declared.Pool.{Pool}
@@ -16,7 +13,7 @@ use Rattle.pool.proofs.Sizes.{Sized}
 use Rattle.tally.specs.declared.Tally.{Tally}
 use Rattle.tally.specs.Tally.{tallyLimit, Within, countedBy, pagesIn}
 use Rattle.tally.proofs.Laws.{within-counted, pages-snoc}
-use Rattle.effect.specs.Record.{Did, recordOf, dirtyIn}
+use Rattle.effect.specs.Record.{Did, dirtyIn}
 use Rattle.effect.proofs.Kept.{Kept, record-kept}
 use Rattle.replay.specs.Replay.{Played, started, after, replayTo}
 use Rattle.replay.proofs.Laws.{doing, replay-none, replay-suc, writesTo, writes-suc, writes-all, writes-rise}

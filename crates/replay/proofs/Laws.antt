@@ -1,7 +1,7 @@
 -- Laws of the fold: one record more, the numbers of rows, the tally as a count of rows.
 use mathlib.Core.Path.{_≡_, refl, ap, sym, _∙_}
 use mathlib.Core.List.{List, [], _∷_, _++_}
-use Prim.Native.Nat.{ℕ, zero, suc, _+_, _*_, _≤_, _<_}
+use Prim.Native.Nat.{ℕ, zero, suc, _+_, _*_, _≤_}
 use native.Mathlib.Omega.{arith}
 use native.Mathlib.Numerals.{add-one}
 use lib.ListN.{length, length-append}
@@ -15,7 +15,7 @@ use Rattle.pool.specs.declared.Pool.{Pool}
 use Rattle.tally.specs.declared.Row.{Row}
 use Rattle.tally.specs.declared.Tally.{Tally}
 use Rattle.tally.specs.Rows.{rowNumbers}
-use Rattle.tally.specs.Tally.{countedBy, countedRows, pagesIn}
+use Rattle.tally.specs.Tally.{countedBy, countedRows}
 use Rattle.tally.proofs.Laws.{counted-none, counted-snoc}
 use Rattle.effect.specs.Record.{Did, recordOf}
 use Rattle.replay.specs.Replay.{Played, started, after, replayTo, numbersOf}

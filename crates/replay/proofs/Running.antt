@@ -1,7 +1,7 @@
 -- The loops: their states, and one turn.
-use mathlib.Core.Path.{_≡_, refl, ap, sym, _∙_}
+use mathlib.Core.Path.{_≡_, ap, sym, _∙_}
 use mathlib.Core.List.{List, [], _∷_, _++_}
-use Prim.Native.Nat.{ℕ, zero, suc, _+_, _*_, _≤_, _<_}
+use Prim.Native.Nat.{ℕ, _+_, _*_}
 use native.Mathlib.Omega.{arith}
 use native.Mathlib.Nat.{zero-add}
 use lib.ListN.{length, length-append}
@@ -15,7 +15,7 @@ use Rattle.tally.specs.Rows.{rowNumbers}
 use Rattle.tally.specs.Tally.{countedBy}
 use Rattle.effect.specs.declared.Effect.{Effect}
 use Rattle.effect.specs.Record.{Did, recordOf}
-use Rattle.effect.specs.Effect.{effectOf, Leaves}
+use Rattle.effect.specs.Effect.{effectOf}
 use Rattle.replay.specs.declared.Ended.{Ended}
 use Rattle.replay.specs.Replay.{Played, after, replayTo, replayOf, numbersOf}
 use Rattle.replay.specs.Calls.{endedAs, endedOf}

@@ -1,11 +1,10 @@
 -- A single step, over variables.
-use mathlib.Core.Path.{_≡_, refl, ap, sym, subst, _∙_}
+use mathlib.Core.Path.{_≡_, refl, ap, sym, _∙_}
 use mathlib.Core.Bool.{Bool, true, false}
-use mathlib.Core.List.{List, []}
-use Prim.Native.Nat.{ℕ, zero, suc, _+_, _≤_, _<_}
+use mathlib.Core.List.{List}
+use Prim.Native.Nat.{ℕ, zero, suc, _≤_}
 use native.Mathlib.Omega.{arith}
 use lib.ListN.{length}
-use lib.Seq.{sets}
 use lib.Dec.{leb}
 use borrow.Author.Tests.{leb-true}
 use Rattle.refusal.specs.Refusals.{demand, badField, noRoom, notSound}
@@ -18,14 +17,13 @@ use Rattle.pool.proofs.Sizes.{Sized}
 use Rattle.tally.specs.declared.Row.{Row}
 use Rattle.tally.specs.declared.Tally.{Tally}
 use Rattle.tally.specs.Rows.{refusedRow}
-use Rattle.tally.specs.Tally.{tallyLimit, Within, Countable, countedBy}
+use Rattle.tally.specs.Tally.{tallyLimit, Countable, countedBy}
 use Rattle.tally.proofs.Laws.{within-more, within-countable}
 use Rattle.effect.specs.declared.Effect.{Effect}
-use Rattle.effect.specs.Record.{Did, recordOf}
+use Rattle.effect.specs.Record.{recordOf}
 use Rattle.effect.specs.Effect.{effectOf, Leaves, Plays}
 use Rattle.effect.proofs.Kept.{record-kept}
-use Rattle.replay.specs.declared.Stepped.{Stepped}
-use Rattle.replay.specs.Calls.{mayBegin, unlessRefused, stepRefusal, steppedOf, StepInto}
+use Rattle.replay.specs.Calls.{mayBegin, stepRefusal, StepInto}
 use Rattle.replay.proofs.Begins.{begins-sound, begins-within}
 
 -- no number of a refusal is above 15

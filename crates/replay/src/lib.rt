@@ -8,12 +8,11 @@ ghost use mathlib.Core.Path.{_≡_};
 ghost use mathlib.Core.Bool.{true};
 ghost use Prim.Native.Nat.{_+_, _≤_};
 ghost use lib.ListN.{length};
-ghost use lib.Seq.{sets};
 ghost use Rattle.refusal.specs.Refusals.{demand, noRoom, otherSettings};
 ghost use Rattle.settings.specs.Settings.{sameSettings};
 ghost use Rattle.trace.specs.Check.{checkOf, traceOf};
 ghost use Rattle.effect.specs.Record.{dirtyIn};
-ghost use Rattle.replay.specs.Replay.{replayOf, numbersOf};
+ghost use Rattle.replay.specs.Replay.{replayOf};
 ghost use Rattle.replay.specs.Calls.{mayBegin, stepRefusal, StepInto, roomFor, endedAs, endedOf, countsOf, ReplayInto, Ready, RanInto};
 
 // What a step gives: a refusal or 0, its row, and pool and tally afterwards.

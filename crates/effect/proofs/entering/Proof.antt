@@ -1,6 +1,4 @@
-use mathlib.Core.Path.{_≡_, refl}
 use native.Mathlib.Omega.{arith}
-use Rattle.effect.specs.Entered.{enteringFrame}
 use Rattle.effect.proofs.Placed.{entering-hit, entering-fetch, entering-unpin, entering-none}
 use borrow.Author.Needs.{needs}
 use Rattle.effect.proofs.entering.Statement.{statement}

@@ -1,8 +1,5 @@
-use mathlib.Core.Path.{_≡_, ap, sym, _∙_}
 use Prim.Native.Nat.{_<_}
 use native.Mathlib.Omega.{arith}
-use lib.ListN.{length}
-use denote.Ref.{now}
 use Rattle.effect.proofs.Making.{chosen-few, chosen-batchable, chosen-short, room-made, room-none}
 use borrow.Author.Needs.{needs}
 use Rattle.effect.proofs.make_room.Statement.{statement}

@@ -1,10 +1,8 @@
-use mathlib.Core.Bool.{Bool, true, false, _&&_, not, and-eq-true-iff, true≢false}
-use mathlib.Core.Path.{_≡_, sym}
+use mathlib.Core.Bool.{not, and-eq-true-iff}
 use native.Mathlib.Omega.{arith}
 use lib.Dec.{eqb}
 use borrow.Author.Tests.{eqb-false}
 use Rattle.search.proofs.Every.{denied}
-use borrow.Author.Needs.{needs}
 use Rattle.effect.proofs.pins_with.Statement.{statement}
 use Rattle.effect.proofs.pins_with.Tie as tie
 

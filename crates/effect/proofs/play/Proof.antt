@@ -1,6 +1,5 @@
-use mathlib.Core.Path.{_≡_, ap, sym, _∙_}
+use mathlib.Core.Path.{_≡_, ap}
 use native.Mathlib.Omega.{arith}
-use Rattle.search.specs.declared.Found.{Found}
 use Rattle.settings.proofs.Laws.{ranges}
 use Rattle.pool.proofs.Sound.{told}
 use Rattle.pool.proofs.Sizes.{sized}

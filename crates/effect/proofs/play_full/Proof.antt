@@ -1,4 +1,3 @@
-use mathlib.Core.Path.{_∙_}
 use Rattle.effect.proofs.Works.{enterable, full-is}
 use borrow.Author.Needs.{needs}
 use Rattle.effect.proofs.play_full.Statement.{statement}

@@ -1,10 +1,5 @@
-use mathlib.Core.Path.{_≡_, ap, sym, _∙_}
-use native.Mathlib.Omega.{arith}
-use denote.Ref.{now}
-use Rattle.trace.proofs.Lists.{writes-le}
-use Rattle.trace.proofs.Accept.{counts-are}
+use mathlib.Core.Path.{_∙_}
 use Rattle.replay.proofs.Calling.{settings-of, count-of}
-use Rattle.replay.proofs.Counting.{accepted-few}
 use borrow.Author.Needs.{needs}
 use Rattle.replay.proofs.accepted_refusal.Statement.{statement}
 use Rattle.replay.proofs.accepted_refusal.Tie as tie

@@ -1,5 +1,5 @@
-use Prim.Native.Nat.{_-_, _+_, _≤_, _<_}
-use mathlib.Core.Path.{_≡_, refl, ap, sym, subst, _∙_}
+use Prim.Native.Nat.{_-_, _≤_}
+use mathlib.Core.Path.{_≡_, refl, ap, sym, _∙_}
 use mathlib.Core.Bool.{true}
 use mathlib.Core.Logic.{⊎-elim}
 use native.Mathlib.Omega.{arith}
@@ -18,7 +18,6 @@ use Rattle.effect.specs.Entered.{settledOf, roomPages}
 use Rattle.effect.proofs.Settled.{found-framed, free-framed, settled-is}
 use Rattle.effect.proofs.Works.{Prepared, prepared-settled, prepared-roomed, full-room, row-and-pool}
 use Rattle.effect.proofs.Placed.{placed-is}
-use Rattle.replay.proofs.Laws.{doing}
 use Rattle.replay.proofs.Running.{stored-length, Counting, counting-none, counting-more, counting-all}
 use Rattle.replay.proofs.Counting.{accepted-few, still-sound, still-sized, count-plays, countable, played}
 use borrow.Author.Needs.{needs}

@@ -1,4 +1,3 @@
-use mathlib.Core.Path.{ap, sym, _∙_}
 use Rattle.replay.specs.Calls.{mayBegin}
 use Rattle.replay.proofs.Begins.{check-sound}
 use borrow.Author.Needs.{needs}
