@@ -173,7 +173,8 @@ fn say_value(p: Pool, i: usize) {
 fn say_unused(p: Pool) {
     if p.settings.frames <= 128 {
         say(b"unused");
-        say_found(reference::lowest_unused(p));
+        let frames = p.frames;
+        say_found(reference::free_for(frames, p.settings.frames, Found::Nothing));
     } else {
         say(b"skipped");
     }
@@ -186,7 +187,8 @@ fn say_checked(p: Pool) {
 
 fn say_where(p: Pool, page: u32) {
     say(b"find");
-    say_found(reference::find(p, page));
+    let frames = p.frames;
+    say_found(reference::find(frames, page));
 }
 
 fn said(p: Pool, m: Command) {

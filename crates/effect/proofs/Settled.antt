@@ -1,18 +1,24 @@
 -- The ways of settling a row, over variables.
-use mathlib.Core.Path.{_≡_, refl, sym, _∙_}
+use mathlib.Core.Path.{_≡_, refl, ap, sym, _∙_}
+use mathlib.Core.List.{List}
 use mathlib.Core.Bool.{Bool, true, false, _&&_}
 use Prim.Native.Nat.{ℕ, zero, suc, _≤_, _<_}
 use native.Mathlib.Omega.{arith}
 use lib.Dec.{eqb, leb}
+use Rattle.search.specs.declared.Found.{Found}
 use Rattle.search.specs.declared.Found.the-variants.{At, Nothing}
+use Rattle.search.specs.Search.{onFound}
 use Rattle.refusal.specs.Refusals.{badField, noReferenceLeft, notPinned, pinsFull}
+use Rattle.pool.specs.declared.Frame.{Frame}
 use Rattle.pool.specs.declared.Pool.{Pool}
 use Rattle.pool.specs.Pool.{referenceLimit}
-use Rattle.reference.specs.Search.{findPage, lowestUnused}
+use Rattle.pool.specs.Sound.{soundPool}
+use Rattle.reference.specs.Search.{findPage, freeFor}
 use Rattle.tally.specs.declared.Row.{Row}
 use Rattle.tally.specs.Rows.{row, hit, missUnused, missClean, unpinned, refusedRow}
 use Rattle.effect.specs.Record.{pinLimit, pinsAt}
-use Rattle.effect.specs.Entered.{settledHit, settledMiss, settledReference, settledUnpin, settledOf}
+use Rattle.effect.specs.Entered.{Framed, settledHit, settledMiss, settledReference, settledUnpin, settledBy, placeOf, settledOf}
+use Rattle.effect.proofs.Ways.{found-few, unused-few}
 
 -- a row that is settled so, in a frame
 abbrev pub Settles : Row → Row → Type 0
@@ -21,66 +27,82 @@ Settles w v = (w ≡ v) × (w .frame < 128)
 settles : (w v u : Row) → w ≡ v → v .frame < 128 → v ≡ u → Settles w u
 settles w v u e l h = (e ∙ h, rw e l)
 
-module _ (p : Pool) (w : Row) where
-  pub hit-full : (i : ℕ) (pin : Bool) → (pin && eqb (pinsAt p i) pinLimit) ≡ true → w ≡ refusedRow pinsFull → Settles w (settledHit p i pin)
-  hit-full i pin t e = settles w (refusedRow pinsFull) (settledHit p i pin) e (omega arith) (rw t)
+module _ (w : Row) where
+  pub hit-full : (pins i : ℕ) (pin : Bool) → (pin && eqb pins pinLimit) ≡ true → w ≡ refusedRow pinsFull → Settles w (settledHit pins i pin)
+  hit-full pins i pin t e = settles w (refusedRow pinsFull) (settledHit pins i pin) e (omega arith) (rw t)
 
-  pub hit-free : (i : ℕ) (pin : Bool) → (pin && eqb (pinsAt p i) pinLimit) ≡ false → i < 128 → w ≡ row hit i 0 0 → Settles w (settledHit p i pin)
-  hit-free i pin t l e = settles w (row hit i 0 0) (settledHit p i pin) e l (rw t)
+  pub hit-free : (pins i : ℕ) (pin : Bool) → (pin && eqb pins pinLimit) ≡ false → i < 128 → w ≡ row hit i 0 0 → Settles w (settledHit pins i pin)
+  hit-free pins i pin t l e = settles w (row hit i 0 0) (settledHit pins i pin) e l (rw t)
 
-  pub miss-free : (i : ℕ) → lowestUnused p ≡ At i → i < 128 → w ≡ row missUnused i 0 0 → Settles w (settledMiss p)
-  miss-free i a l e = settles w (row missUnused i 0 0) (settledMiss p) e l (rw a)
+  pub miss-free : (f : Found) (i : ℕ) → f ≡ At i → i < 128 → w ≡ row missUnused i 0 0 → Settles w (settledMiss f)
+  miss-free f i a l e = settles w (row missUnused i 0 0) (settledMiss f) e l (rw a)
 
-  pub miss-full : lowestUnused p ≡ Nothing → w ≡ row missClean 0 0 0 → Settles w (settledMiss p)
-  miss-full a e = settles w (row missClean 0 0 0) (settledMiss p) e (omega arith) (rw a)
+  pub miss-full : (f : Found) → f ≡ Nothing → w ≡ row missClean 0 0 0 → Settles w (settledMiss f)
+  miss-full f a e = settles w (row missClean 0 0 0) (settledMiss f) e (omega arith) (rw a)
 
-  module _ (page : ℕ) where
-    pub settle-limit : (pin : Bool) → leb referenceLimit (p .k) ≡ true → w ≡ refusedRow noReferenceLeft → Settles w (settledReference p page pin)
-    unfolding settledReference
-    settle-limit pin t e = settles w (refusedRow noReferenceLeft) (settledReference p page pin) e (omega arith) (rw t)
+module _ (k pins : ℕ) (found free : Found) (w : Row) where
+  pub settle-limit : (pin : Bool) → leb referenceLimit k ≡ true → w ≡ refusedRow noReferenceLeft → Settles w (settledReference k found pins free pin)
+  unfolding settledReference
+  settle-limit pin t e = settles w (refusedRow noReferenceLeft) (settledReference k found pins free pin) e (omega arith) (rw t)
 
-    pub settle-resident : (pin : Bool) (i : ℕ) → leb referenceLimit (p .k) ≡ false → findPage (p .frames) page ≡ At i → Settles w (settledHit p i pin) → Settles w (settledReference p page pin)
-    unfolding settledReference
-    settle-resident pin i t a e = (e .0 ∙ rw (t, a), e .1)
+  pub settle-resident : (pin : Bool) (i : ℕ) → leb referenceLimit k ≡ false → found ≡ At i → Settles w (settledHit pins i pin) → Settles w (settledReference k found pins free pin)
+  unfolding settledReference
+  settle-resident pin i t a e = (e .0 ∙ rw (t, a), e .1)
 
-    pub settle-absent : (pin : Bool) → leb referenceLimit (p .k) ≡ false → findPage (p .frames) page ≡ Nothing → Settles w (settledMiss p) → Settles w (settledReference p page pin)
-    unfolding settledReference
-    settle-absent pin t a e = (e .0 ∙ rw (t, a), e .1)
+  pub settle-absent : (pin : Bool) → leb referenceLimit k ≡ false → found ≡ Nothing → Settles w (settledMiss free) → Settles w (settledReference k found pins free pin)
+  unfolding settledReference
+  settle-absent pin t a e = (e .0 ∙ rw (t, a), e .1)
 
-    pub unpin-away : findPage (p .frames) page ≡ Nothing → w ≡ refusedRow notPinned → Settles w (settledUnpin p page)
-    unfolding settledUnpin
-    unpin-away a e = settles w (refusedRow notPinned) (settledUnpin p page) e (omega arith) (rw a)
+  pub unpin-away : found ≡ Nothing → w ≡ refusedRow notPinned → Settles w (settledUnpin found pins)
+  unfolding settledUnpin
+  unpin-away a e = settles w (refusedRow notPinned) (settledUnpin found pins) e (omega arith) (rw a)
 
-    pub unpin-free : (i : ℕ) → findPage (p .frames) page ≡ At i → eqb (pinsAt p i) 0 ≡ true → w ≡ refusedRow notPinned → Settles w (settledUnpin p page)
-    unfolding settledUnpin
-    unpin-free i a t e = settles w (refusedRow notPinned) (settledUnpin p page) e (omega arith) (rw (a, t))
+  pub unpin-free : (i : ℕ) → found ≡ At i → eqb pins 0 ≡ true → w ≡ refusedRow notPinned → Settles w (settledUnpin found pins)
+  unfolding settledUnpin
+  unpin-free i a t e = settles w (refusedRow notPinned) (settledUnpin found pins) e (omega arith) (rw (a, t))
 
-    pub unpin-held : (i : ℕ) → findPage (p .frames) page ≡ At i → eqb (pinsAt p i) 0 ≡ false → i < 128 → w ≡ row unpinned i 0 0 → Settles w (settledUnpin p page)
-    unfolding settledUnpin
-    unpin-held i a t l e = settles w (row unpinned i 0 0) (settledUnpin p page) e l (rw (a, t))
+  pub unpin-held : (i : ℕ) → found ≡ At i → eqb pins 0 ≡ false → i < 128 → w ≡ row unpinned i 0 0 → Settles w (settledUnpin found pins)
+  unfolding settledUnpin
+  unpin-held i a t l e = settles w (row unpinned i 0 0) (settledUnpin found pins) e l (rw (a, t))
 
-    -- the kinds
-    reference-kind : (kind : ℕ) → kind ≤ 2 → settledReference p page (eqb kind 2) ≡ settledOf p page kind
-    unfolding settledOf
-    reference-kind zero l = refl
-    reference-kind (suc zero) l = refl
-    reference-kind (suc (suc zero)) l = refl
-    reference-kind (suc (suc (suc kind))) l = absurd (omega arith)
+  -- the kinds
+  reference-kind : (kind : ℕ) → kind ≤ 2 → settledReference k found pins free (eqb kind 2) ≡ settledBy k found pins free kind
+  unfolding settledBy
+  reference-kind zero l = refl
+  reference-kind (suc zero) l = refl
+  reference-kind (suc (suc zero)) l = refl
+  reference-kind (suc (suc (suc kind))) l = absurd (omega arith)
 
-    pub settle-reference : (kind : ℕ) → kind ≤ 2 → Settles w (settledReference p page (eqb kind 2)) → Settles w (settledOf p page kind)
-    settle-reference kind l e = (e .0 ∙ reference-kind kind l, e .1)
+  pub settle-reference : (kind : ℕ) → kind ≤ 2 → Settles w (settledReference k found pins free (eqb kind 2)) → Settles w (settledBy k found pins free kind)
+  settle-reference kind l e = (e .0 ∙ reference-kind kind l, e .1)
 
-    pub settle-unpin : (kind : ℕ) → kind ≡ 3 → Settles w (settledUnpin p page) → Settles w (settledOf p page kind)
-    unfolding settledOf
-    settle-unpin kind k e = (e .0 ∙ rw k, e .1)
+  pub settle-unpin : (kind : ℕ) → kind ≡ 3 → Settles w (settledUnpin found pins) → Settles w (settledBy k found pins free kind)
+  unfolding settledBy
+  settle-unpin kind e h = (h .0 ∙ rw e, h .1)
 
-    bad : (kind : ℕ) → 4 ≤ kind → settledOf p page kind ≡ refusedRow badField
-    unfolding settledOf
-    bad zero l = absurd (omega arith)
-    bad (suc zero) l = absurd (omega arith)
-    bad (suc (suc zero)) l = absurd (omega arith)
-    bad (suc (suc (suc zero))) l = absurd (omega arith)
-    bad (suc (suc (suc (suc kind)))) l = refl
+  bad : (kind : ℕ) → 4 ≤ kind → settledBy k found pins free kind ≡ refusedRow badField
+  unfolding settledBy
+  bad zero l = absurd (omega arith)
+  bad (suc zero) l = absurd (omega arith)
+  bad (suc (suc zero)) l = absurd (omega arith)
+  bad (suc (suc (suc zero))) l = absurd (omega arith)
+  bad (suc (suc (suc (suc kind)))) l = refl
 
-    pub settle-bad : (kind : ℕ) → 4 ≤ kind → w ≡ refusedRow badField → Settles w (settledOf p page kind)
-    settle-bad kind l e = settles w (refusedRow badField) (settledOf p page kind) e (omega arith) (sym (bad kind l))
+  pub settle-bad : (kind : ℕ) → 4 ≤ kind → w ≡ refusedRow badField → Settles w (settledBy k found pins free kind)
+  settle-bad kind l e = settles w (refusedRow badField) (settledBy k found pins free kind) e (omega arith) (sym (bad kind l))
+
+-- what was found in a sound pool is a frame
+pub found-framed : (fs : List Frame) (page : ℕ) (found : Found) → found ≡ findPage fs page → Framed found
+found-framed fs page found e i h = found-few fs page i (sym e ∙ h)
+
+pub free-framed : (p : Pool) (found free : Found) → soundPool p ≡ true → free ≡ freeFor p found → Framed free
+free-framed p (At j) free s e i h = absurd (nothing-at i (sym e ∙ h))
+  where
+    nothing-at : (i : ℕ) → _≡_ {A = Found} Nothing (At i) → ⊥
+    nothing-at i q = let z : _≡_ {A = ℕ} 0 1 = ap (λ (f : Found). onFound f (λ _. 1) 0) q in omega arith
+free-framed p Nothing free s e i h = unused-few p i s (sym e ∙ h)
+
+-- the row of a record from what was found in its pool
+pub settled-is : (p : Pool) (page kind pins : ℕ) (found free : Found) (w : Row) → found ≡ findPage (p .frames) page → free ≡ freeFor p found → pins ≡ pinsAt p (placeOf found)
+    → w ≡ settledBy (p .k) found pins free kind → w ≡ settledOf p page kind
+settled-is p page kind pins found free w a b c e = e ∙ rw (c, b, a)

@@ -18,7 +18,7 @@ use Rattle.pool.specs.Pool.{referenceLimit, frameAt}
 use Rattle.pool.specs.Sound.{soundPool}
 use Rattle.pool.proofs.Sound.{Sound, told, made}
 use Rattle.pool.proofs.Sizes.{Sized}
-use Rattle.reference.specs.Search.{findPage, lowestUnused}
+use Rattle.reference.specs.Search.{findPage, lowestUnused, freeFor}
 use Rattle.reference.specs.Reference.{hitAt, unpinnedAt}
 use Rattle.victim.specs.declared.Choice.{Choice}
 use Rattle.victim.specs.Choice.{leftBy}
@@ -32,7 +32,7 @@ use Rattle.effect.specs.Record.{Did, did, pinLimit, pinsAt, refusal, pin
 use Rattle.effect.specs.declared.Effect.{Effect}
 use Rattle.effect.specs.declared.Room.{Room}
 use Rattle.effect.specs.Effect.{Leaves, Plays}
-use Rattle.effect.specs.Entered.{Enterable, RoomMade, workedOf, settledHit, settledMiss, settledReference, settledUnpin, settledOf, roomRow, roomPages, roomFrames, roomed, entered}
+use Rattle.effect.specs.Entered.{Enterable, RoomMade, workedOf, settledHit, settledMiss, settledReference, settledUnpin, settledBy, placeOf, settledOf, roomRow, roomPages, roomFrames, roomed, entered}
 use Rattle.effect.proofs.Ways.{found-few, unused-few, at-limit, resident, absent, free, full, victim, no-victim, pins-full, pins-free, unpin-absent, unpin-none, unpin-one}
 use Rattle.effect.proofs.Placed.{entered-hit, entered-free, entered-left, entered-unpin, entered-none}
 
@@ -89,54 +89,63 @@ module _ (p : Pool) (s : Sound p) (z : Sized p) (page kind : ℕ) where
   abbrev pin : Bool
   pin = eqb kind 2
 
-  hit-way : (i : ℕ) → i < 128 → Way p (hitOf p i write pin) (settledHit p i pin) page kind
+  hit-way : (i : ℕ) → i < 128 → Way p (hitOf p i write pin) (settledHit (pinsAt p i) i pin) page kind
   hit-way i l = go (pin && eqb (pinsAt p i) pinLimit) refl
     where
-      go : (b : Bool) → (pin && eqb (pinsAt p i) pinLimit) ≡ b → Way p (hitOf p i write pin) (settledHit p i pin) page kind
-      go true e = same-way (hitOf p i write pin) (refusal p pinsFull) (settledHit p i pin) (refusedRow pinsFull) (pins-full p i write pin e) (rw e) (refused-way pinsFull)
+      go : (b : Bool) → (pin && eqb (pinsAt p i) pinLimit) ≡ b → Way p (hitOf p i write pin) (settledHit (pinsAt p i) i pin) page kind
+      go true e = same-way (hitOf p i write pin) (refusal p pinsFull) (settledHit (pinsAt p i) i pin) (refusedRow pinsFull) (pins-full p i write pin e) (rw e) (refused-way pinsFull)
       go false e =
-          same-way (hitOf p i write pin) (did (row hit i 0 0) [] (pinnedWhere (hitAt p i write) pin i)) (settledHit p i pin) (row hit i 0 0) (pins-free p i write pin e) (rw e)
+          same-way (hitOf p i write pin) (did (row hit i 0 0) [] (pinnedWhere (hitAt p i write) pin i)) (settledHit (pinsAt p i) i pin) (row hit i 0 0) (pins-free p i write pin e) (rw e)
           (settled-way (row hit i 0 0) (did (row hit i 0 0) [] (pinnedWhere (hitAt p i write) pin i)) (λ q. omega arith) refl (entered-hit p z i l page kind e) refl)
 
-  miss-way : Way p (missOf p page write pin) (settledMiss p) page kind
+  miss-way : Way p (missOf p page write pin) (settledMiss (lowestUnused p)) page kind
   miss-way = go (lowestUnused p) refl
     where
-      go : (f : Found) → lowestUnused p ≡ f → Way p (missOf p page write pin) (settledMiss p) page kind
+      go : (f : Found) → lowestUnused p ≡ f → Way p (missOf p page write pin) (settledMiss (lowestUnused p)) page kind
       go (At i) e =
-          same-way (missOf p page write pin) (did (row missUnused i 0 0) [] (filled p i page write pin)) (settledMiss p) (row missUnused i 0 0) (free p page write pin i e) (rw e)
+          same-way (missOf p page write pin) (did (row missUnused i 0 0) [] (filled p i page write pin)) (settledMiss (lowestUnused p)) (row missUnused i 0 0) (free p page write pin i e) (rw e)
           (settled-way (row missUnused i 0 0) (did (row missUnused i 0 0) [] (filled p i page write pin)) (λ q. omega arith) refl (entered-free p z i (unused-few p i (made p s) e) page kind) refl)
       go Nothing e =
-          same-way (missOf p page write pin) (evictionOf p page write pin) (settledMiss p) (row missClean 0 0 0) (full p page write pin e) (rw e)
+          same-way (missOf p page write pin) (evictionOf p page write pin) (settledMiss (lowestUnused p)) (row missClean 0 0 0) (full p page write pin e) (rw e)
           (λ ne. absurd (ne refl), λ _. room-works)
 
-  reference-way : Way p (referenceOf p page write pin) (settledReference p page pin) page kind
+  abbrev place : Found
+  place = findPage (p .frames) page
+
+  abbrev settledRef : Row
+  settledRef = settledReference (p .k) place (pinsAt p (placeOf place)) (freeFor p place) pin
+
+  reference-way : Way p (referenceOf p page write pin) settledRef page kind
   unfolding settledReference
   reference-way = limited (leb referenceLimit (p .k)) refl
     where
-      found : (f : Found) → leb referenceLimit (p .k) ≡ false → findPage (p .frames) page ≡ f → Way p (referenceOf p page write pin) (settledReference p page pin) page kind
-      found (At i) e a = same-way (referenceOf p page write pin) (hitOf p i write pin) (settledReference p page pin) (settledHit p i pin) (resident p page write pin i e a) (rw (e, a)) (hit-way i (found-few (p .frames) page i a))
-      found Nothing e a = same-way (referenceOf p page write pin) (missOf p page write pin) (settledReference p page pin) (settledMiss p) (absent p page write pin e a) (rw (e, a)) miss-way
+      found : (f : Found) → leb referenceLimit (p .k) ≡ false → place ≡ f → Way p (referenceOf p page write pin) settledRef page kind
+      found (At i) e a = same-way (referenceOf p page write pin) (hitOf p i write pin) settledRef (settledHit (pinsAt p i) i pin) (resident p page write pin i e a) (rw (e, a)) (hit-way i (found-few (p .frames) page i a))
+      found Nothing e a = same-way (referenceOf p page write pin) (missOf p page write pin) settledRef (settledMiss (lowestUnused p)) (absent p page write pin e a) (rw (e, a)) miss-way
 
-      limited : (b : Bool) → leb referenceLimit (p .k) ≡ b → Way p (referenceOf p page write pin) (settledReference p page pin) page kind
-      limited true e = same-way (referenceOf p page write pin) (refusal p noReferenceLeft) (settledReference p page pin) (refusedRow noReferenceLeft) (at-limit p page write pin e) (rw e) (refused-way noReferenceLeft)
-      limited false e = found (findPage (p .frames) page) e refl
+      limited : (b : Bool) → leb referenceLimit (p .k) ≡ b → Way p (referenceOf p page write pin) settledRef page kind
+      limited true e = same-way (referenceOf p page write pin) (refusal p noReferenceLeft) settledRef (refusedRow noReferenceLeft) (at-limit p page write pin e) (rw e) (refused-way noReferenceLeft)
+      limited false e = found place e refl
 
-  unpin-way : Way p (unpinOf p page) (settledUnpin p page) page kind
+  abbrev settledOff : Row
+  settledOff = settledUnpin place (pinsAt p (placeOf place))
+
+  unpin-way : Way p (unpinOf p page) settledOff page kind
   unfolding settledUnpin
-  unpin-way = found (findPage (p .frames) page) refl
+  unpin-way = found place refl
     where
-      pinned : (b : Bool) (i : ℕ) → findPage (p .frames) page ≡ At i → eqb (pinsAt p i) 0 ≡ b → Way p (unpinOf p page) (settledUnpin p page) page kind
-      pinned true i a e = same-way (unpinOf p page) (refusal p notPinned) (settledUnpin p page) (refusedRow notPinned) (unpin-none p page i a e) (rw (a, e)) (refused-way notPinned)
+      pinned : (b : Bool) (i : ℕ) → place ≡ At i → eqb (pinsAt p i) 0 ≡ b → Way p (unpinOf p page) settledOff page kind
+      pinned true i a e = same-way (unpinOf p page) (refusal p notPinned) settledOff (refusedRow notPinned) (unpin-none p page i a e) (rw (a, e)) (refused-way notPinned)
       pinned false i a e =
-          same-way (unpinOf p page) (did (row unpinned i 0 0) [] (unpinnedAt p i)) (settledUnpin p page) (row unpinned i 0 0) (unpin-one p page i a e) (rw (a, e))
+          same-way (unpinOf p page) (did (row unpinned i 0 0) [] (unpinnedAt p i)) settledOff (row unpinned i 0 0) (unpin-one p page i a e) (rw (a, e))
           (settled-way (row unpinned i 0 0) (did (row unpinned i 0 0) [] (unpinnedAt p i)) (λ q. omega arith) refl (entered-unpin p z i (found-few (p .frames) page i a) page kind) refl)
 
-      found : (f : Found) → findPage (p .frames) page ≡ f → Way p (unpinOf p page) (settledUnpin p page) page kind
+      found : (f : Found) → place ≡ f → Way p (unpinOf p page) settledOff page kind
       found (At i) a = pinned (eqb (pinsAt p i) 0) i a refl
-      found Nothing a = same-way (unpinOf p page) (refusal p notPinned) (settledUnpin p page) (refusedRow notPinned) (unpin-absent p page a) (rw a) (refused-way notPinned)
+      found Nothing a = same-way (unpinOf p page) (refusal p notPinned) settledOff (refusedRow notPinned) (unpin-absent p page a) (rw a) (refused-way notPinned)
 
 record-way : (p : Pool) (s : Sound p) (z : Sized p) (page kind : ℕ) → Way p (recordOf p page kind) (settledOf p page kind) page kind
-unfolding recordOf settledOf
+unfolding recordOf settledBy
 record-way p s z page zero = reference-way p s z page 0
 record-way p s z page (suc zero) = reference-way p s z page 1
 record-way p s z page (suc (suc zero)) = reference-way p s z page 2

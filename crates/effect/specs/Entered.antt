@@ -7,12 +7,14 @@ use mathlib.Core.List.{List, []}
 use lib.ListN.{length, set}
 use lib.Seq.{sets}
 use lib.Dec.{eqb, leb}
+use Rattle.search.specs.declared.Found.{Found}
+use Rattle.search.specs.declared.Found.the-variants.{At}
 use Rattle.search.specs.Search.{pick, onFound, oneIf}
 use Rattle.refusal.specs.Refusals.{badField, noReferenceLeft, noFrame, notPinned, pinsFull}
 use Rattle.pool.specs.declared.Frame.{Frame}
 use Rattle.pool.specs.declared.Pool.{Pool}
 use Rattle.pool.specs.Pool.{referenceLimit, accessRoom, writeRoom, frameAt, nowOf}
-use Rattle.reference.specs.Search.{findPage, lowestUnused}
+use Rattle.reference.specs.Search.{findPage, freeFor}
 use Rattle.reference.specs.Logs.{cleared, lengthWith, logWith}
 use Rattle.reference.specs.Reference.{raised, withPins}
 use Rattle.victim.specs.Choice.{leftBy}
@@ -24,30 +26,43 @@ use Rattle.effect.specs.declared.Room.{Room}
 use Rattle.effect.specs.declared.Effect.{Effect}
 use Rattle.effect.specs.Record.{pinLimit, pinsAt}
 
+-- what was found is a frame
+abbrev pub Framed : Found → Type 0
+Framed f = (i : ℕ) → f ≡ At i → i < 128
+
+-- a hit in frame i, which has so many pins
+abbrev pub settledHit : ℕ → ℕ → Bool → Row
+settledHit pins i pin = pick (pin && eqb pins pinLimit) (refusedRow pinsFull) (row hit i 0 0)
+
+-- a miss: in an unused frame, or a victim is wanted
+abbrev pub settledMiss : Found → Row
+settledMiss free = onFound free (λ i. row missUnused i 0 0) (row missClean 0 0 0)
+
+-- a reference at step k
+unfoldable pub settledReference : ℕ → Found → ℕ → Found → Bool → Row
+settledReference k found pins free pin = pick (leb referenceLimit k) (refusedRow noReferenceLeft) (onFound found (λ i. settledHit pins i pin) (settledMiss free))
+
+-- an unpin
+unfoldable pub settledUnpin : Found → ℕ → Row
+settledUnpin found pins = onFound found (λ i. pick (eqb pins 0) (refusedRow notPinned) (row unpinned i 0 0)) (refusedRow notPinned)
+
+-- the row, but where a victim is wanted, from the frame in which the page was found, its pins, and an unused frame where it was not
+unfoldable pub settledBy : ℕ → Found → ℕ → Found → ℕ → Row
+settledBy k found pins free zero = settledReference k found pins free false
+settledBy k found pins free (suc zero) = settledReference k found pins free false
+settledBy k found pins free (suc (suc zero)) = settledReference k found pins free true
+settledBy k found pins free (suc (suc (suc zero))) = settledUnpin found pins
+settledBy k found pins free (suc (suc (suc (suc kind)))) = refusedRow badField
+
+-- the frame in which a page was found, or 0
+abbrev pub placeOf : Found → ℕ
+placeOf found = onFound found (λ i. i) 0
+
 module _ (p : Pool) where
-  -- a hit in frame i
-  abbrev pub settledHit : ℕ → Bool → Row
-  settledHit i pin = pick (pin && eqb (pinsAt p i) pinLimit) (refusedRow pinsFull) (row hit i 0 0)
-
-  -- a miss: in an unused frame, or a victim is wanted
-  abbrev pub settledMiss : Row
-  settledMiss = onFound (lowestUnused p) (λ i. row missUnused i 0 0) (row missClean 0 0 0)
-
-  -- a reference
-  unfoldable pub settledReference : ℕ → Bool → Row
-  settledReference page pin = pick (leb referenceLimit (p .k)) (refusedRow noReferenceLeft) (onFound (findPage (p .frames) page) (λ i. settledHit i pin) settledMiss)
-
-  -- an unpin
-  unfoldable pub settledUnpin : ℕ → Row
-  settledUnpin page = onFound (findPage (p .frames) page) (λ i. pick (eqb (pinsAt p i) 0) (refusedRow notPinned) (row unpinned i 0 0)) (refusedRow notPinned)
-
   -- the row, but where a victim is wanted
-  unfoldable pub settledOf : ℕ → ℕ → Row
-  settledOf page zero = settledReference page false
-  settledOf page (suc zero) = settledReference page false
-  settledOf page (suc (suc zero)) = settledReference page true
-  settledOf page (suc (suc (suc zero))) = settledUnpin page
-  settledOf page (suc (suc (suc (suc kind)))) = refusedRow badField
+  abbrev pub settledOf : ℕ → ℕ → Row
+  settledOf page kind =
+      settledBy (p .k) (findPage (p .frames) page) (pinsAt p (placeOf (findPage (p .frames) page))) (freeFor p (findPage (p .frames) page)) kind
 
   -- where a victim is wanted: the row
   unfoldable pub roomRow : Row

@@ -14,7 +14,7 @@ ghost use Rattle.reference.specs.Reference.{withPins};
 ghost use Rattle.tally.specs.Rows.{row, missClean, missDirty};
 ghost use Rattle.effect.specs.Record.{recordOf};
 ghost use Rattle.effect.specs.Effect.{Leaves, Plays};
-ghost use Rattle.effect.specs.Entered.{settledHit, settledMiss, settledReference, settledUnpin, settledOf, roomRow, roomPages, roomed, RoomMade, pinsWith, hitFrame, fetchedFrame, enteringFrame, Enterable, entered, workedOf};
+ghost use Rattle.effect.specs.Entered.{settledHit, settledMiss, settledReference, settledUnpin, settledBy, placeOf, roomRow, roomPages, roomed, RoomMade, Framed, pinsWith, hitFrame, fetchedFrame, enteringFrame, Enterable, entered, workedOf};
 
 // A record's row, and the pool afterwards.
 pub struct Effect {
@@ -47,23 +47,21 @@ fn row_at(outcome: u32, frame: usize) -> Row
 }
 
 // A hit in frame i, or refusal 12.
-fn settle_hit(p: Pool, i: usize, pin: bool) -> Row
+fn settle_hit(pins: u8, i: usize, pin: bool) -> Row
     requires { ⌜ i < 128 ⌝ }
-    ensures { λ r. ⌜ (r ≡ settledHit p i pin) × (r .frame < 128) ⌝ }
+    ensures { λ r. ⌜ (r ≡ settledHit pins i pin) × (r .frame < 128) ⌝ }
 {
-    let fr = p.frames[i];
-    if pin & (fr.pins == PIN_LIMIT) {
+    if pin & (pins == PIN_LIMIT) {
         return tally::refused_row(refusal::PINS_FULL);
     }
     row_at(tally::HIT, i)
 }
 
 // A miss in the lowest unused frame; with none, a victim is wanted, and nothing is known of it yet.
-fn settle_miss(p: Pool) -> Row
-    requires { ⌜ soundPool p ≡ true ⌝ }
-    ensures { λ r. ⌜ (r ≡ settledMiss p) × (r .frame < 128) ⌝ }
+fn settle_miss(free: Found) -> Row
+    requires { ⌜ Framed free ⌝ }
+    ensures { λ r. ⌜ (r ≡ settledMiss free) × (r .frame < 128) ⌝ }
 {
-    let free = reference::lowest_unused(p);
     let Found::At(i) = free else {
         return row_at(tally::MISS_CLEAN, 0);
     };
@@ -71,44 +69,54 @@ fn settle_miss(p: Pool) -> Row
 }
 
 // A read, a write or a pin.
-fn settle_reference(p: Pool, page: u32, pin: bool) -> Row
-    requires { ⌜ soundPool p ≡ true ⌝ }
-    ensures { λ r. ⌜ (r ≡ settledReference p page pin) × (r .frame < 128) ⌝ }
+fn settle_reference(k: u32, found: Found, pins: u8, free: Found, pin: bool) -> Row
+    requires { ⌜ Framed found × Framed free ⌝ }
+    ensures { λ r. ⌜ (r ≡ settledReference k found pins free pin) × (r .frame < 128) ⌝ }
 {
-    if pool::REFERENCE_LIMIT <= p.k {
+    if pool::REFERENCE_LIMIT <= k {
         return tally::refused_row(refusal::NO_REFERENCE_LEFT);
     }
-    let at_page = reference::find(p, page);
-    let Found::At(i) = at_page else {
-        return settle_miss(p);
-    };
-    settle_hit(p, i, pin)
+    match found {
+        Found::At(i) => settle_hit(pins, i, pin),
+        Found::Nothing => settle_miss(free),
+    }
 }
 
 // An unpin: no reference.
-fn settle_unpin(p: Pool, page: u32) -> Row
-    ensures { λ r. ⌜ (r ≡ settledUnpin p page) × (r .frame < 128) ⌝ }
+fn settle_unpin(found: Found, pins: u8) -> Row
+    requires { ⌜ Framed found ⌝ }
+    ensures { λ r. ⌜ (r ≡ settledUnpin found pins) × (r .frame < 128) ⌝ }
 {
-    let at_page = reference::find(p, page);
-    let Found::At(i) = at_page else {
+    let Found::At(i) = found else {
         return tally::refused_row(refusal::NOT_PINNED);
     };
-    let fr = p.frames[i];
-    if fr.pins == 0 {
+    if pins == 0 {
         return tally::refused_row(refusal::NOT_PINNED);
     }
     row_at(tally::UNPINNED, i)
 }
 
-// A record's row; where it is a miss with a clean victim, a victim is wanted and is still to be found.
-pub fn settle(p: Pool, page: u32, kind: u16) -> Row
-    requires { ⌜ soundPool p ≡ true ⌝ }
-    ensures { λ r. ⌜ (r ≡ settledOf p page kind) × (r .frame < 128) ⌝ }
+// The row of a record at step k, whose page was found in a frame with so many pins, or may go into an unused one. Where it is a miss with
+// a clean victim, a victim is wanted and is still to be found.
+pub fn settle(k: u32, found: Found, pins: u8, free: Found, kind: u16) -> Row
+    requires { ⌜ Framed found × Framed free ⌝ }
+    ensures { λ r. ⌜ (r ≡ settledBy k found pins free kind) × (r .frame < 128) ⌝ }
 {
     match kind {
-        0..=2 => settle_reference(p, page, kind == 2),
-        3 => settle_unpin(p, page),
+        0..=2 => settle_reference(k, found, pins, free, kind == 2),
+        3 => settle_unpin(found, pins),
         4..=65535 => tally::refused_row(refusal::BAD_FIELD),
+    }
+}
+
+// The frame in which a page was found, or 0.
+pub fn place_of(found: Found) -> usize
+    requires { ⌜ Framed found ⌝ }
+    ensures { λ r. ⌜ (r ≡ placeOf found) × (r < 128) ⌝ }
+{
+    match found {
+        Found::At(i) => i,
+        Found::Nothing => 0,
     }
 }
 
@@ -275,7 +283,11 @@ pub fn play(p: Pool, page: u32, kind: u16, out: &mut [u32], at: usize) -> Effect
     requires { ⌜ Plays p (recordOf p page kind) at (length (now out)) ⌝ }
     ensures { λ r. ⌜ Leaves (recordOf p page kind) at r (now (out .entry)) (now (out .exit)) ⌝ }
 {
-    let row = settle(p, page, kind);
+    let frames = p.frames;
+    let found = reference::find(frames, page);
+    let free = reference::free_for(frames, p.settings.frames, found);
+    let fr = frames[place_of(found)];
+    let row = settle(p.k, found, fr.pins, free, kind);
     if row.outcome == tally::MISS_CLEAN {
         return play_full(p, page, kind, out, at);
     }

@@ -6,3 +6,4 @@ pub mod Ready
 pub mod Keeps
 pub mod Others
 pub mod Referred
+pub mod Free

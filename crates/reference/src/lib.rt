@@ -6,9 +6,9 @@ ghost use mathlib.Core.Path.{_≡_};
 ghost use mathlib.Core.Bool.{true};
 ghost use Prim.Native.Nat.{_+_, _*_, _<_, _≤_};
 ghost use lib.ListN.{length};
-ghost use Rattle.search.specs.Search.{pick};
+ghost use Rattle.search.specs.Search.{pick, onFound};
 ghost use Rattle.pool.specs.Sound.{holdsPage};
-ghost use Rattle.reference.specs.Search.{findPage, lowestUnused};
+ghost use Rattle.reference.specs.Search.{findPage, freeIn};
 ghost use Rattle.reference.specs.Logs.{putFront, cleared, grown, stays, lengthWith, logWith};
 ghost use Rattle.reference.specs.Reference.{Referable, raised, referred, hitAt, fetchedAt, pinnedAt, unpinnedAt};
 ghost use Rattle.pool.specs.Pool.{frameAt};
@@ -20,13 +20,13 @@ fn holds(fr: Frame, page: u32) -> bool
     fr.used & (fr.page == page)
 }
 
-// The frame in use that holds the page.
-pub fn find(p: Pool, page: u32) -> Found
-    ensures { λ r. ⌜ r ≡ findPage (p .frames) page ⌝ }
+// The frame in use that holds the page. It takes the frames and not the pool, which would be copied whole.
+pub fn find(frames: [Frame; 128], page: u32) -> Found
+    ensures { λ r. ⌜ r ≡ findPage frames page ⌝ }
 {
     let mut i: usize = 0;
     while i < 128 {
-        let fr = p.frames[i];
+        let fr = frames[i];
         if holds(fr, page) {
             return Found::At(i);
         }
@@ -35,15 +35,25 @@ pub fn find(p: Pool, page: u32) -> Found
     Found::Nothing
 }
 
-// The lowest unused frame below f.
-pub fn lowest_unused(p: Pool) -> Found
-    requires { ⌜ p .settings .frames ≤ 128 ⌝ }
-    ensures { λ r. ⌜ r ≡ lowestUnused p ⌝ }
+// How many frames to look through for an unused one: none where the page was found.
+fn to_look_through(found: Found, f: usize) -> usize
+    ensures { λ r. ⌜ r ≡ onFound found (λ _. 0) f ⌝ }
 {
-    let f = p.settings.frames as usize;
+    match found {
+        Found::At(_) => 0,
+        Found::Nothing => f,
+    }
+}
+
+// The lowest unused frame below f, looked for only where the page was not found.
+pub fn free_for(frames: [Frame; 128], f: u16, found: Found) -> Found
+    requires { ⌜ f ≤ 128 ⌝ }
+    ensures { λ r. ⌜ r ≡ freeIn frames f found ⌝ }
+{
+    let n = to_look_through(found, f as usize);
     let mut i: usize = 0;
-    while i < f {
-        let fr = p.frames[i];
+    while i < n {
+        let fr = frames[i];
         if fr.used {
             i += 1;
         } else {

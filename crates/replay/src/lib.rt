@@ -146,13 +146,17 @@ fn count(pool: Pool, tally: Tally, bytes: &[u8], summary: Summary) -> Ended
     let mut i: usize = 0;
     while i < n {
         let record = trace::record_at(bytes, summary, i);
-        let mut row = effect::settle(q, record.page, record.kind);
+        let frames = q.frames;
+        let found = reference::find(frames, record.page);
+        let free = reference::free_for(frames, q.settings.frames, found);
+        let old = frames[effect::place_of(found)];
+        let mut row = effect::settle(q.k, found, old.pins, free, record.kind);
         if row.outcome == tally::MISS_CLEAN {
             let room = effect::make_room(q, &mut scratch, 0);
-            let frames = room.frames;
+            let left = room.frames;
             q.hand = room.hand;
             q.sampler = room.sampler;
-            q.frames = frames;
+            q.frames = left;
             row = room.row;
         }
         let refers = row.outcome <= tally::MISS_DIRTY;

@@ -4,13 +4,20 @@ use borrow.Author.Needs.{needs}
 use Rattle.effect.proofs.settle.Statement.{statement}
 use Rattle.effect.proofs.settle.Tie as tie
 
+returns : tie.Need-returns
+returns c = let a = c .before .before .args in settle-unpin (a .k) (a .pins) (a .found) (a .free) _ (a .kind) (c .before .match .keys1) (c .settle-unpin .ensures)
+
+returns-2 : tie.Need-returns-2
+returns-2 c =
+    let a = c .before .before .before .args in
+    settle-reference (a .k) (a .pins) (a .found) (a .free) _ (a .kind) (omega arith) (c .settle-reference .ensures)
+
+returns-3 : tie.Need-returns-3
+returns-3 c =
+    let a = c .before .before .before .args in
+    settle-bad (a .k) (a .pins) (a .found) (a .free) _ (a .kind) (omega arith) (c .refused-row .ensures)
+
 pub settle-spec : {M : Type 1} → statement M
 settle-spec =
     tie.close
-    (tie.spec
-    (λ c κs. search needs)
-    (λ c κs. search needs)
-    (λ c κs. search needs)
-    (λ c. settle-unpin _ _ _ _ (c .before .match .keys1) (c .settle-unpin .ensures))
-    (λ c. settle-reference _ _ _ (c .before .before .before .args .kind) (omega arith) (c .settle-reference .ensures))
-    (λ c. settle-bad _ _ _ (c .before .before .before .args .kind) (omega arith) (c .refused-row .ensures)))
+    (tie.spec (λ c κs. c .before .pre .0) (λ c κs. c .before .before .pre) (λ c κs. search needs) returns returns-2 returns-3)

@@ -10,10 +10,10 @@ use Rattle.reference.proofs.find.Statement.{statement}
 use Rattle.reference.proofs.find.Tie as tie
 
 abbrev Inv-loop : tie.InvT-loop
-Inv-loop page p i₀ i = (i ≤ 128) × (leastBelow (has (p .frames) page) never i ≡ Nothing)
+Inv-loop page frames i₀ i = (i ≤ 128) × (leastBelow (has frames page) never i ≡ Nothing)
 
 abbrev μ-loop : tie.MeasureT-loop
-μ-loop page p i₀ i = 128 - i
+μ-loop page frames i₀ i = 128 - i
 
 loop-holds : tie.Need-loop-holds Inv-loop μ-loop
 loop-holds c = (search needs, least-zero _ _)

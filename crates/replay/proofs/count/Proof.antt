@@ -8,10 +8,14 @@ use denote.Ref.{now}
 use Rattle.trace.specs.Check.{traceOf}
 use Rattle.trace.proofs.Accept.{counts-are}
 use Rattle.pool.specs.Sound.{soundPool}
+use Rattle.settings.proofs.Laws.{ranges}
+use Rattle.pool.proofs.Sound.{told}
 use Rattle.pool.proofs.Sizes.{Sized, sized}
-use Rattle.effect.specs.Record.{recordOf}
+use Rattle.effect.specs.Record.{pinsAt, recordOf}
 use Rattle.effect.specs.Effect.{Plays}
-use Rattle.effect.specs.Entered.{roomPages}
+use Rattle.reference.proofs.Free.{free-is}
+use Rattle.effect.specs.Entered.{settledOf, roomPages}
+use Rattle.effect.proofs.Settled.{found-framed, free-framed, settled-is}
 use Rattle.effect.proofs.Works.{Prepared, prepared-settled, prepared-roomed, full-room, row-and-pool}
 use Rattle.effect.proofs.Placed.{placed-is}
 use Rattle.replay.proofs.Laws.{doing}
@@ -47,26 +51,43 @@ module _ (r : tie.After-record-at Inv-loop μ-loop) where
       let a = l .before .before .before in
       count-plays (a .args .pool) (a .args .tally) (now (a .args .bytes)) (a .args .summary) (sized (a .args .pool) _ (a .good .0)) (a .pre) _ _ _ (r .before .loop-test .taken) (l .loop .inv .2) _ (r .record-at .ensures)
 
+settle-requires : tie.Need-settle-requires Inv-loop μ-loop
+settle-requires c κs =
+    let v = c .before .before in
+    let f = v .before in
+    (found-framed _ _ _ (f .find .ensures), free-framed _ (f .find .result) _ (sound (f .before .before)) (free-is (f .before .before .before .before .loop .q) (f .find .result) _ (v .free-for .ensures)))
+
+-- where the row is settled
+module _ (w : tie.After-settle Inv-loop μ-loop) where
+  settled : w .settle .result ≡ settledOf (w .before .before .before .before .before .before .before .before .loop .q) (w .before .before .before .before .before .before .record-at .result .page) (w .before .before .before .before .before .before .record-at .result .kind)
+  settled =
+      let o = w .before .before in
+      let v = o .before in
+      let f = v .before in
+      let r = f .before .before in
+      let q = r .before .before .loop .q in
+      settled-is q (r .record-at .result .page) (r .record-at .result .kind) _ (f .find .result) (v .free-for .result) _ (f .find .ensures) (free-is q (f .find .result) _ (v .free-for .ensures)) (ap (pinsAt q) (o .place-of .ensures .0)) (w .settle .ensures .0)
+
 make-room-requires : tie.Need-make-room-requires Inv-loop μ-loop
 make-room-requires c κs =
     let i = c .before in
     let w = i .before .before in
-    let r = w .before in
-    (sound r, rw (r .before .before .loop .inv .1) (full-room _ (sound r) (long r) _ _ 0 _ 16 (w .settle .ensures .0) (i .if1 .taken) (plays r)))
+    let r = w .before .before .before .before .before .before in
+    (sound r, rw (r .before .before .loop .inv .1) (full-room _ (sound r) (long r) _ _ 0 _ 16 (settled w) (i .if1 .taken) (plays r)))
 
 -- where the row is settled, and room made if it was wanted
 module _ (c : tie.Joined1 Inv-loop μ-loop) where
-  prepared : Prepared (c .before .before .before .before .before .loop .q) (c .if1 .q) (c .if1 .row) (c .before .before .before .record-at .result .page) (c .before .before .before .record-at .result .kind)
+  prepared : Prepared (c .before .before .before .before .before .before .before .before .before .before .loop .q) (c .if1 .q) (c .if1 .row) (c .before .before .before .before .before .before .before .before .record-at .result .page) (c .before .before .before .before .before .before .before .before .record-at .result .kind)
   prepared =
       let w = c .before .before in
-      let r = w .before in
-      ⊎-elim (λ x. rw (x .7, x .8) (prepared-roomed _ (sound r) (long r) _ _ _ _ _ _ _ (w .settle .ensures .0) (x .0 .taken) (x .2 .ensures)))
-      (λ x. rw (x .2, x .3) (prepared-settled _ (sound r) (long r) _ _ _ (w .settle .ensures .0) (w .settle .ensures .1) (x .0 .left)))
+      let r = w .before .before .before .before .before .before in
+      ⊎-elim (λ x. rw (x .7, x .8) (prepared-roomed _ (sound r) (long r) _ _ _ _ _ _ _ (settled w) (x .0 .taken) (x .2 .ensures)))
+      (λ x. rw (x .2, x .3) (prepared-settled _ (sound r) (long r) _ _ _ (settled w) (w .settle .ensures .1) (x .0 .left)))
       (c .if1 .came)
 
   short : length (c .if1 .scratch) ≡ 16
   short =
-      let l = c .before .before .before .before .before in
+      let l = c .before .before .before .before .before .before .before .before .before .before in
       ⊎-elim (λ x. rw (x .6) (stored-length (l .loop .scratch) _ (roomPages (l .loop .q)) 0 16 (x .2 .ensures .list) (l .loop .inv .1)))
       (λ x. rw (x .1) (l .loop .inv .1))
       (c .if1 .came)
@@ -74,7 +95,7 @@ module _ (c : tie.Joined1 Inv-loop μ-loop) where
 counted-requires : tie.Need-counted-requires Inv-loop μ-loop
 counted-requires c κs =
     let j = c .before .before .before .before .before .before .before .before .before .before .before .before in
-    let r = j .before .before .before in
+    let r = j .before .before .before .before .before .before .before .before in
     let l = r .before .before in
     let a = l .before .before .before in
     let d = recordOf (l .loop .q) (r .record-at .result .page) (r .record-at .result .kind) in
@@ -86,7 +107,7 @@ add-q c = let h = prepared (c .before .before .before .before .before .before .b
 
 add-i : tie.Need-add-i Inv-loop μ-loop
 add-i c =
-    let r = c .before .before .before .before .before .before .before .before .before .before .before .before .before .before .before .before in
+    let r = c .before .before .before .before .before .before .before .before .before .before .before .before .before .before .before .before .before .before .before .before .before in
     let few = accepted-few _ _ (r .before .before .before .before .before .pre .accepted) in
     let l = r .before .loop-test .taken in
     omega arith
@@ -99,7 +120,7 @@ loop-again c =
     let g = x .before .before in
     let n = g .before .before .before in
     let j = n .before .before .before .before in
-    let r = j .before .before .before in
+    let r = j .before .before .before .before .before .before .before .before in
     let l = r .before .before in
     let a = l .before .before .before in
     let d = recordOf (l .loop .q) (r .record-at .result .page) (r .record-at .result .kind) in
@@ -126,8 +147,13 @@ count-spec =
     (λ c. search needs)
     (λ c. (search needs, search needs, counting-none _ _ _))
     (λ c κs. (c .before .before .before .before .pre .accepted, c .loop-test .taken))
-    (λ c κs. sound c)
-    (λ c. sym (c .before .before .before .before .before .before .loop .inv .1))
+    (λ c κs. search needs)
+    (λ c κs. ranges _ (told _ (sound (c .before .before)) .settings) .frames .1)
+    (λ c κs. found-framed _ _ _ (c .before .find .ensures))
+    (λ c. let l = c .place-of .ensures .1 in omega arith)
+    (λ c. c .place-of .ensures .1)
+    settle-requires
+    (λ c. sym (c .before .before .before .before .before .before .before .before .before .before .before .loop .inv .1))
     make-room-requires
     (λ c κs. prepared (c .before .before .before) .able .epoch)
     (λ c. search needs)
@@ -142,6 +168,6 @@ count-spec =
     add-q
     counted-requires
     add-i
-    (λ c. let l = c .before .before .before .before .before .before .before .before .before .before .before .before .before .before .before .before .before .loop-test .taken in omega arith)
+    (λ c. let l = c .before .before .before .before .before .before .before .before .before .before .before .before .before .before .before .before .before .before .before .before .before .before .loop-test .taken in omega arith)
     loop-again
     returns)
