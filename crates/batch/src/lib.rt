@@ -112,20 +112,14 @@ fn next(waiting: [bool; 128], ranks: [Fraction; 128], f: usize) -> Found
     ensures { λ r. ⌜ r ≡ leastBelow (λ i. getD waiting i false) (λ i j. lessFraction (rankAt ranks i) (rankAt ranks j)) f ⌝ }
 {
     let mut best = Found::Nothing;
+    let mut low = Fraction { num: 0, den: 1 };
     let mut i: usize = 0;
     while i < f {
         if waiting[i] {
-            match best {
-                Found::Nothing => {
-                    best = Found::At(i);
-                }
-                Found::At(b) => {
-                    let new = ranks[i];
-                    let old = ranks[b];
-                    if worth::less(new, old) {
-                        best = Found::At(i);
-                    }
-                }
+            let rank = ranks[i];
+            if victim::watt::beats(rank, best, low) {
+                best = Found::At(i);
+                low = rank;
             }
         }
         i += 1;

@@ -1,5 +1,5 @@
 -- WATT: draws, values and the victim.
-use Prim.Native.Nat.{ℕ, zero, suc, _+_, _*_, _%_, _^_}
+use Prim.Native.Nat.{ℕ, zero, suc, _+_, _*_, _%_, _^_, _≤_, _<_}
 use mathlib.Core.Bool.{Bool, true, _&&_}
 use mathlib.Core.List.{List, [], _∷_, _++_}
 use Rattle.search.specs.declared.Found.{Found}
@@ -7,6 +7,7 @@ use Rattle.search.specs.declared.Found.the-variants.{At}
 use Rattle.search.specs.Search.{onFound, leastBelow, among}
 use Rattle.worth.specs.declared.Fraction.{Fraction}
 use Rattle.worth.specs.Value.{lessFraction, worthOf, valueOf}
+use Rattle.pool.specs.declared.Frame.{Frame}
 use Rattle.pool.specs.declared.Pool.{Pool}
 use Rattle.pool.specs.Pool.{accessRoom, writeRoom, frameAt, nowOf}
 use Rattle.victim.specs.declared.Choice.{Choice}
@@ -62,3 +63,19 @@ module _ (p : Pool) where
     sampler = onFound wattVictim (λ _. samplerAfter (p .sampler) (p .settings .sample)) (p .sampler);
     frames = p .frames;
   }
+
+-- the same from parts of the pool, for the code: frame i's value, and the frame below f of least value
+module _ (frames : List Frame) where
+  abbrev pub valueFrom : List ℕ → List ℕ → ℕ → ℕ → ℕ → Fraction
+  valueFrom access write weight epoch i =
+      valueOf (worthOf access (i * accessRoom) (frameAt frames i .accesses) epoch) (worthOf write (i * writeRoom) (frameAt frames i .writes) epoch) weight
+
+  abbrev pub leastFrom : (ℕ → Fraction) → (ℕ → Bool) → ℕ → Found
+  leastFrom value counts f = leastBelow (λ i. counts i && unpinned frames i) (λ i j. lessFraction (value i) (value j)) f
+
+  -- bounds of those parts, which hold in a sound pool
+  pub record Valuable (f weight epoch : ℕ) : Type 0 where
+    pub few : f ≤ 128
+    pub weighs : weight ≤ 16
+    pub young : epoch ≤ 50000
+    pub logs : (i : ℕ) → i < 128 → (frameAt frames i .accesses ≤ 8) × (frameAt frames i .writes ≤ 4)

@@ -7,14 +7,18 @@ ghost use mathlib.Core.Path.{_≡_};
 ghost use mathlib.Core.Bool.{true};
 ghost use Prim.Native.Nat.{_≤_};
 ghost use lib.Dec.{ltb};
+ghost use Rattle.search.specs.Search.{onFound};
 ghost use Rattle.pool.specs.Sound.{soundPool};
 ghost use Rattle.victim.specs.Lru.{lruVictim, lruChoice};
 
-// Whether a frame's last step is less than another's.
-fn older(fr: Frame, than: Frame) -> bool
-    ensures { λ r. ⌜ r ≡ ltb (fr .last) (than .last) ⌝ }
+// Whether a frame takes the place of the best so far, whose last step is low: on a tie it does not.
+fn older(fr: Frame, best: Found, low: u32) -> bool
+    ensures { λ r. ⌜ r ≡ onFound best (λ _. ltb (fr .last) low) true ⌝ }
 {
-    fr.last < than.last
+    match best {
+        Found::Nothing => true,
+        Found::At(_) => fr.last < low,
+    }
 }
 
 // The unpinned frame below f with the least last step, the lowest on a tie.
@@ -23,20 +27,14 @@ fn victim(frames: [Frame; 128], f: usize) -> Found
     ensures { λ r. ⌜ r ≡ lruVictim frames f ⌝ }
 {
     let mut best = Found::Nothing;
+    let mut low: u32 = 0;
     let mut i: usize = 0;
     while i < f {
         let fr = frames[i];
         if fr.pins == 0 {
-            match best {
-                Found::Nothing => {
-                    best = Found::At(i);
-                }
-                Found::At(b) => {
-                    let old = frames[b];
-                    if older(fr, old) {
-                        best = Found::At(i);
-                    }
-                }
+            if older(fr, best, low) {
+                best = Found::At(i);
+                low = fr.last;
             }
         }
         i += 1;

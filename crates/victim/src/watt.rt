@@ -13,7 +13,7 @@ ghost use Rattle.worth.specs.Value.{lessFraction, worthOf, valueOf};
 ghost use Rattle.worth.specs.Sizes.{Small};
 ghost use Rattle.pool.specs.Pool.{nowOf};
 ghost use Rattle.pool.specs.Sound.{soundPool};
-ghost use Rattle.victim.specs.Watt.{nextSampler, samplerAfter, draws, leastValue, drawnFrame, wattVictim, wattChoice};
+ghost use Rattle.victim.specs.Watt.{nextSampler, samplerAfter, draws, valueFrom, leastFrom, Valuable, drawnFrame, wattVictim, wattChoice};
 
 // The sampler number after some draws, and which frames they named.
 struct Draws {
@@ -75,7 +75,7 @@ pub fn value_of<'a>(
 }
 
 // Whether a frame of value v takes the place of the best so far, whose value is low: on a tie it does not.
-fn beats(v: Fraction, best: Found, low: Fraction) -> bool
+pub fn beats(v: Fraction, best: Found, low: Fraction) -> bool
     requires { ⌜ Small v × Small low ⌝ }
     ensures { λ r. ⌜ r ≡ onFound best (λ _. lessFraction v low) true ⌝ }
 {
@@ -85,19 +85,26 @@ fn beats(v: Fraction, best: Found, low: Fraction) -> bool
     }
 }
 
-// The marked unpinned frame of least value, the lowest on a tie. A value is found once, and only for such a frame.
-fn least(p: Pool, marks: [bool; 128], epoch: u32) -> Found
-    requires { ⌜ (soundPool p ≡ true) × (epoch ≡ nowOf p) ⌝ }
-    ensures { λ r. ⌜ r ≡ leastValue p (λ i. getD marks i false) ⌝ }
+// The marked unpinned frame below f of least value, the lowest on a tie. A value is found once, and only for such a frame.
+fn least<'a>(
+    frames: [Frame; 128],
+    access: &'a [u32; 1024],
+    write: &'a [u32; 512],
+    marks: [bool; 128],
+    f: usize,
+    weight: u16,
+    epoch: u32,
+) -> Found
+    requires { ⌜ Valuable frames f weight epoch ⌝ }
+    ensures { λ r. ⌜ r ≡ leastFrom frames (valueFrom frames (now (access .entry)) (now (write .entry)) weight epoch) (λ i. getD marks i false) f ⌝ }
 {
-    let f = p.settings.frames as usize;
     let mut best = Found::Nothing;
     let mut low = Fraction { num: 0, den: 1 };
     let mut i: usize = 0;
     while i < f {
-        let fr = p.frames[i];
+        let fr = frames[i];
         if marks[i] & (fr.pins == 0) {
-            let v = value_of(fr, &p.access, &p.write, i, p.settings.weight, epoch);
+            let v = value_of(fr, access, write, i, weight, epoch);
             if beats(v, best, low) {
                 best = Found::At(i);
                 low = v;
@@ -113,12 +120,16 @@ fn victim(p: Pool, marks: [bool; 128], epoch: u32) -> Found
     requires { ⌜ (soundPool p ≡ true) × (epoch ≡ nowOf p) × ((i : ℕ) → i < 128 → getD marks i false ≡ drawnFrame p i) ⌝ }
     ensures { λ r. ⌜ r ≡ wattVictim p ⌝ }
 {
-    let first = least(p, marks, epoch);
+    let f = p.settings.frames as usize;
+    let frames = p.frames;
+    let access = p.access;
+    let write = p.write;
+    let first = least(frames, &access, &write, marks, f, p.settings.weight, epoch);
     match first {
         Found::At(v) => Found::At(v),
         Found::Nothing => {
             let every = [true; 128];
-            least(p, every, epoch)
+            least(frames, &access, &write, every, f, p.settings.weight, epoch)
         }
     }
 }

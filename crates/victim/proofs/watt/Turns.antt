@@ -19,11 +19,12 @@ use Rattle.worth.specs.Value.{fraction, lessFraction}
 use Rattle.worth.specs.Sizes.{Small}
 use Rattle.settings.proofs.Laws.{ranges}
 use Rattle.pool.specs.declared.Pool.{Pool}
+use Rattle.pool.specs.Pool.{nowOf}
 use Rattle.pool.specs.Sound.{soundPool}
 use Rattle.pool.proofs.Sound.{told}
 use Rattle.victim.specs.declared.Choice.{Choice}
 use Rattle.victim.specs.Choice.{unpinned}
-use Rattle.victim.specs.Watt.{nextSampler, samplerAfter, draws, valueAt, lessValue, leastValue, drawnFrame, wattVictim, wattChoice}
+use Rattle.victim.specs.Watt.{nextSampler, samplerAfter, draws, valueAt, lessValue, leastValue, valueFrom, leastFrom, drawnFrame, wattVictim, wattChoice}
 
 -- ---- draws
 
@@ -76,38 +77,50 @@ draw-more sampler f s next at marks n long d e a =
 pub framed : (p : Pool) → soundPool p ≡ true → p .settings .frames ≤ 128
 framed p h = ranges (p .settings) (told p h .settings) .frames .1
 
+-- by value
+abbrev pub lesser : (ℕ → Fraction) → ℕ → ℕ → Bool
+lesser value i j = lessFraction (value i) (value j)
+
 -- the best frame below i that passes, and its value
-pub record Best (p : Pool) (ok : ℕ → Bool) (i : ℕ) (best : Found) (low : Fraction) : Type 0 where
-  pub found : best ≡ leastBelow ok (lessValue p) i
-  pub value : low ≡ onFound best (valueAt p) (fraction 0 1)
+pub record Best (value : ℕ → Fraction) (ok : ℕ → Bool) (i : ℕ) (best : Found) (low : Fraction) : Type 0 where
+  pub found : best ≡ leastBelow ok (lesser value) i
+  pub least : low ≡ onFound best value (fraction 0 1)
   pub small : Small low
 
-module _ (p : Pool) (ok : ℕ → Bool) where
-  pub best-none : Best p ok 0 Nothing (fraction 0 1)
-  best-none = record { found = sym (least-zero ok (lessValue p)); value = refl; small = record { num = omega arith; den = omega arith } }
+module _ (value : ℕ → Fraction) (ok : ℕ → Bool) where
+  pub best-none : Best value ok 0 Nothing (fraction 0 1)
+  best-none = record { found = sym (least-zero ok (lesser value)); least = refl; small = record { num = omega arith; den = omega arith } }
 
-  pub best-skip : (i : ℕ) (best : Found) (low : Fraction) → Best p ok i best low → ok i ≡ false → Best p ok (i + 1) best low
-  best-skip i best low b e = record { found = b .found ∙ sym (least-skip ok (lessValue p) i e); value = b .value; small = b .small }
+  pub best-skip : (i : ℕ) (best : Found) (low : Fraction) → Best value ok i best low → ok i ≡ false → Best value ok (i + 1) best low
+  best-skip i best low b e = record { found = b .found ∙ sym (least-skip ok (lesser value) i e); least = b .least; small = b .small }
 
-  pub best-beat : (i : ℕ) (best : Found) (low v : Fraction) → Best p ok i best low → ok i ≡ true → v ≡ valueAt p i → Small v
-      → onFound best (λ _. lessFraction v low) true ≡ true → Best p ok (i + 1) (At i) v
-  best-beat i Nothing low v b e q s t = record { found = sym (least-first ok (lessValue p) i e (sym (b .found))); value = q; small = s }
+  pub best-beat : (i : ℕ) (best : Found) (low v : Fraction) → Best value ok i best low → ok i ≡ true → v ≡ value i → Small v
+      → onFound best (λ _. lessFraction v low) true ≡ true → Best value ok (i + 1) (At i) v
+  best-beat i Nothing low v b e q s t = record { found = sym (least-first ok (lesser value) i e (sym (b .found))); least = q; small = s }
   best-beat i (At j) low v b e q s t = record {
-    found = sym (least-beat ok (lessValue p) i j e (sym (b .found)) (rw (← q, ← b .value) t));
-    value = q;
+    found = sym (least-beat ok (lesser value) i j e (sym (b .found)) (rw (← q, ← b .least) t));
+    least = q;
     small = s;
   }
 
-  pub best-keep : (i : ℕ) (best : Found) (low v : Fraction) → Best p ok i best low → v ≡ valueAt p i
-      → onFound best (λ _. lessFraction v low) true ≡ false → Best p ok (i + 1) best low
+  pub best-keep : (i : ℕ) (best : Found) (low v : Fraction) → Best value ok i best low → v ≡ value i
+      → onFound best (λ _. lessFraction v low) true ≡ false → Best value ok (i + 1) best low
   best-keep i Nothing low v b q t = absurd (true≢false t)
   best-keep i (At j) low v b q t = record {
-    found = sym (least-keep ok (lessValue p) i j (rw (← q, ← b .value) t) (sym (b .found)));
-    value = b .value;
+    found = sym (least-keep ok (lesser value) i j (rw (← q, ← b .least) t) (sym (b .found)));
+    least = b .least;
     small = b .small;
   }
 
 -- ---- the choice
+
+-- what is found from the pool's parts is its marked frame of least value
+pub found-least : (p : Pool) (epoch : ℕ) (marks : List Bool) (r : Found) → epoch ≡ nowOf p
+    → r ≡ leastFrom (p .frames) (valueFrom (p .frames) (p .access) (p .write) (p .settings .weight) epoch) (λ i. getD marks i false) (p .settings .frames)
+    → r ≡ leastValue p (λ i. getD marks i false)
+unfolding valueAt
+found-least p epoch marks r e h =
+    h ∙ ap (λ (t : ℕ). leastFrom (p .frames) (valueFrom (p .frames) (p .access) (p .write) (p .settings .weight) t) (λ i. getD marks i false) (p .settings .frames)) e
 
 module _ (p : Pool) (sound : soundPool p ≡ true) (marks : List Bool) where
   -- marks that agree with a test below 128 find what the test finds
