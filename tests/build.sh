@@ -1,6 +1,6 @@
 # For tests/run and tests/measure, which source it at the repository's top. What it builds for this machine stands in
 # target/native.
-for needed in rt gcc rustc; do
+for needed in rt gcc rustc python3; do
     command -v "$needed" >/dev/null || { echo "$0: $needed is missing, and the tests need it" >&2; exit 1; }
 done
 mkdir -p target/native
@@ -28,7 +28,7 @@ build_host() { # to libhost.a
     native lib host target/staticlib/libhost.a
 }
 
-# Proves what both programs share only once, and the two side by side.
+# Proves what the programs share only once, and builds them side by side.
 build_programs() { # NAME...
     local name job jobs=()
     quietly rt check "$@"

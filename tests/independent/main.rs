@@ -1,6 +1,6 @@
 //! A second program for the replay, written from the paper alone, to be held
 //! against another one. It lists traces and series, makes them from seeds,
-//! compares its listings with those of two given programs, and times itself.
+//! compares its listings and sheets with those of given programs, and times itself.
 
 mod replay;
 #[cfg(test)]
@@ -24,7 +24,7 @@ usage: listing < TRACE
        makeseries SEED > ITEMS
        stored > ITEMS
        skewed lru|clock|watt high|low > TRACE
-       compare ROWS-PROGRAM SERIES-PROGRAM FIRST COUNT SERIESCOUNT";
+       compare ROWS-PROGRAM BENCH-PROGRAM SERIES-PROGRAM FIRST COUNT SERIESCOUNT";
 
 fn main() -> ExitCode {
     let arguments: Vec<String> = std::env::args().skip(1).collect();
@@ -67,11 +67,11 @@ fn run(arguments: &[&str]) -> Result<ExitCode, Box<dyn Error>> {
             };
             stdout.write_all(&traces::skewed(rule, order))?;
         }
-        ["compare", rows, series, first, count, series_count] => {
+        ["compare", rows, bench, series, first, count, series_count] => {
             let first: u64 = first.parse()?;
             let (count, series_count) = (count.parse::<u64>()?, series_count.parse::<u64>()?);
             drop(stdout);
-            return compare(rows, series, first, count, series_count);
+            return compare([rows, bench, series], first, count, series_count);
         }
         _ => return Err(USAGE.into()),
     }
@@ -243,15 +243,14 @@ impl Coverage {
         }
     }
 
-    /// What should have occurred and never did. Only a series can give 15, and
-    /// that is not asked of every run.
+    /// What should have occurred and never did. Only a series can give 9 and 15.
     fn missing(&self) -> Vec<String> {
         let outcomes = OUTCOMES
             .iter()
             .filter(|outcome| !self.outcomes.contains_key(outcome));
         let refusals = REFUSALS
             .iter()
-            .filter(|r| **r != 15 && !self.refusals.contains_key(r));
+            .filter(|refusal| !self.refusals.contains_key(refusal));
         outcomes
             .map(|outcome| format!("outcome {outcome}"))
             .chain(refusals.map(|refusal| format!("trace refusal {refusal}")))
@@ -293,7 +292,30 @@ fn output_of(program: &str, input: &[u8]) -> Result<Vec<u8>, Box<dyn Error>> {
         });
         child.wait_with_output()
     })?;
+    if !output.status.success() {
+        return Err(format!("{program}: {}", output.status).into());
+    }
     Ok(output.stdout)
+}
+
+/// The sheet of a trace whose listing is this: its settings and the six counts, or
+/// that it is refused.
+fn sheet_of(bytes: &[u8], listing: &str) -> String {
+    let Ok(trace) = check(bytes) else {
+        return listing.to_string();
+    };
+    let policy = match trace.settings.rule {
+        Rule::Lru => "lru",
+        Rule::Clock => "clock",
+        Rule::Watt => "watt",
+    };
+    let lines: Vec<&str> = listing.split_inclusive('\n').collect();
+    format!(
+        "policy {policy}\nframes {}\nrecords {}\n{}",
+        trace.settings.frames,
+        trace.records.len(),
+        lines[lines.len() - 6..].concat(),
+    )
 }
 
 /// The first line in which two texts differ, with its number and both forms.
@@ -315,29 +337,25 @@ fn first_difference(ours: &[u8], theirs: &[u8]) -> Option<(usize, String, String
 }
 
 fn compare(
-    rows_program: &str,
-    series_program: &str,
+    [rows, bench, series]: [&str; 3],
     first: u64,
     count: u64,
     series_count: u64,
 ) -> Result<ExitCode, Box<dyn Error>> {
     let mut coverage = Coverage::default();
-    let traces = (first..first + count).map(|seed| ("trace", seed));
-    let series = (first..first + series_count).map(|seed| ("series", seed));
-    for (kind, seed) in traces.chain(series) {
+    let seeds = (first..first + count).map(|seed| ("trace", seed));
+    let series_seeds = (first..first + series_count).map(|seed| ("series", seed));
+    for (kind, seed) in seeds.chain(series_seeds) {
         let mut watch = |result: &Replay| coverage.note(result);
         let (ours, theirs) = if kind == "trace" {
             let bytes = traces::trace(seed);
-            (
-                list_trace(&bytes, &mut watch),
-                output_of(rows_program, &bytes)?,
-            )
+            let listing = list_trace(&bytes, &mut watch);
+            let sheet = sheet_of(&bytes, &listing);
+            let theirs = [output_of(rows, &bytes)?, output_of(bench, &bytes)?].concat();
+            (listing + &sheet, theirs)
         } else {
             let bytes = traces::series(seed);
-            (
-                list_series(&bytes, &mut watch),
-                output_of(series_program, &bytes)?,
-            )
+            (list_series(&bytes, &mut watch), output_of(series, &bytes)?)
         };
         if let Some((line, ours, theirs)) = first_difference(ours.as_bytes(), &theirs) {
             println!("seed {seed}, {kind}, line {line}: ours {ours}, theirs {theirs}");

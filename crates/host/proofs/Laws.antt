@@ -1,5 +1,5 @@
 -- Replay to counts from a fresh pool: it is not refused, and what is stored.
-use mathlib.Core.Path.{_≡_, refl, ap, _∙_}
+use mathlib.Core.Path.{_≡_, refl, ap, sym, _∙_}
 use mathlib.Core.Bool.{true}
 use mathlib.Core.List.{List}
 use Prim.Native.Nat.{ℕ, zero, suc, _≤_, _<_}
@@ -72,3 +72,7 @@ module _ (s out : List ℕ) where
       answers = rw (accepted s h e .0, le-leb countsLength (length out) l);
       out-holds = y ∙ rw (x, accepted s h e .1, accepted s h e .0, le-leb countsLength (length out) l);
     }
+
+-- any two outcomes that the contract of the counts allows are the same
+pub host-one : (s out : List ℕ) (a b : ℕ) (out₁ out₂ : List ℕ) → CountsInto s out a out₁ → CountsInto s out b out₂ → (a ≡ b) × (out₁ ≡ out₂)
+host-one s out a b out₁ out₂ x y = (x .answers ∙ sym (y .answers), x .out-holds ∙ sym (y .out-holds))

@@ -88,7 +88,8 @@ fn dirty_frames(p: Pool) -> u32
     n
 }
 
-fn refused(r: u32, pool: Pool, tally: Tally) -> Ended
+// A refusal or 0, and a pool and a tally.
+fn ending(r: u32, pool: Pool, tally: Tally) -> Ended
     ensures { λ e. ⌜ e ≡ endedAs r pool tally ⌝ }
 {
     Ended {
@@ -146,10 +147,12 @@ fn count(pool: Pool, tally: Tally, bytes: &[u8], summary: Summary) -> Ended
     while i < n {
         let record = trace::record_at(bytes, summary, i);
         let frames = q.frames;
-        let found = reference::find(frames, record.page);
+        let page = record.page;
+        let kind = record.kind;
+        let found = reference::find(frames, page);
         let free = reference::free_for(frames, q.settings.frames, found);
         let old = frames[effect::place_of(found)];
-        let mut row = effect::settle(q.k, found, old.pins, free, record.kind);
+        let mut row = effect::settle(q.k, found, old.pins, free, kind);
         if row.outcome == tally::MISS_CLEAN {
             let room = effect::make_room(q, &mut scratch, 0);
             let left = room.frames;
@@ -158,38 +161,20 @@ fn count(pool: Pool, tally: Tally, bytes: &[u8], summary: Summary) -> Ended
             q.frames = left;
             row = room.row;
         }
-        let refers = row.outcome <= tally::MISS_DIRTY;
-        let fetches = (tally::MISS_UNUSED <= row.outcome) & refers;
-        let writes = refers & (record.kind == 1);
+        let refer = row.outcome <= tally::MISS_DIRTY;
+        let fetch = (tally::MISS_UNUSED <= row.outcome) & refer;
+        let write = refer & (kind == 1);
         let epoch = pool::now_of(q);
         let at = row.frame as usize;
-        let mut fr = effect::entering(
-            q.frames[at],
-            row.outcome,
-            record.page,
-            record.kind,
-            q.settings.cap,
-            q.k,
-        );
-        fr.accesses = reference::enter_access(
-            &mut q.access,
-            at,
-            fr.accesses,
-            epoch,
-            fetches,
-            refers,
-        );
-        fr.writes = reference::enter_write(&mut q.write, at, fr.writes, epoch, fetches, writes);
+        let mut fr = effect::entering(q.frames[at], row.outcome, page, kind, q.settings.cap, q.k);
+        fr.accesses = reference::enter_access(&mut q.access, at, fr.accesses, epoch, fetch, refer);
+        fr.writes = reference::enter_write(&mut q.write, at, fr.writes, epoch, fetch, write);
         q.frames[at] = fr;
-        q.k = q.k + tally::one_if(refers);
+        q.k = q.k + tally::one_if(refer);
         t = tally::counted(t, row);
         i += 1;
     }
-    Ended {
-        refusal: 0,
-        pool: q,
-        tally: t,
-    }
+    ending(0, q, t)
 }
 
 // An accepted trace: 15, then its records.
@@ -200,7 +185,7 @@ fn count_accepted(pool: Pool, tally: Tally, bytes: &[u8], summary: Summary) -> E
     if settings::same(summary.settings, pool.settings) {
         return count(pool, tally, bytes, summary);
     }
-    refused(refusal::OTHER_SETTINGS, pool, tally)
+    ending(refusal::OTHER_SETTINGS, pool, tally)
 }
 
 // Replay to counts.
@@ -208,11 +193,11 @@ pub fn counts(pool: Pool, tally: Tally, bytes: &[u8]) -> Ended
     ensures { λ r. ⌜ r ≡ countsOf pool tally (now (bytes .entry)) ⌝ }
 {
     if !may_begin(pool, tally) {
-        return refused(refusal::NOT_SOUND, pool, tally);
+        return ending(refusal::NOT_SOUND, pool, tally);
     }
     let c = trace::check(bytes);
     match c {
-        Checked::Refused(r) => refused(r, pool, tally),
+        Checked::Refused(r) => ending(r, pool, tally),
         Checked::Accepted(summary) => count_accepted(pool, tally, bytes, summary),
     }
 }
@@ -246,7 +231,7 @@ fn replay_accepted(
     if r == 0 {
         return run(pool, tally, bytes, summary, rows, written);
     }
-    refused(r, pool, tally)
+    ending(r, pool, tally)
 }
 
 // Replay with rows, four numbers each, and written pages, from the front of two lent lists.
@@ -260,11 +245,11 @@ pub fn replay(
     ensures { λ r. ⌜ ReplayInto pool tally (now (bytes .entry)) (now (rows .entry)) (now (written .entry)) r (now (rows .exit)) (now (written .exit)) ⌝ }
 {
     if !may_begin(pool, tally) {
-        return refused(refusal::NOT_SOUND, pool, tally);
+        return ending(refusal::NOT_SOUND, pool, tally);
     }
     let c = trace::check(bytes);
     match c {
-        Checked::Refused(r) => refused(r, pool, tally),
+        Checked::Refused(r) => ending(r, pool, tally),
         Checked::Accepted(summary) => replay_accepted(pool, tally, bytes, summary, rows, written),
     }
 }

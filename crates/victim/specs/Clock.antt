@@ -21,7 +21,6 @@ rests fr = eqb (fr .pins) 0 && eqb (fr .count) 0
 abbrev pub passedFrame : Frame → Frame
 passedFrame fr = withCount fr (pick (eqb (fr .pins) 0) (fr .count - 1) (fr .count))
 
--- the frames when the hand has passed frame h
 -- the frames when frame h is passed
 abbrev pub passed : List Frame → ℕ → List Frame
 passed fs h = set fs h (passedFrame (frameAt fs h))

@@ -93,7 +93,7 @@ module _ (c : tie.Joined1 Inv-loop μ-loop) where
 
 counted-requires : tie.Need-counted-requires Inv-loop μ-loop
 counted-requires c κs =
-    let j = c .before .before .before .before .before .before .before .before .before .before .before .before in
+    let j = c .before .before .before .before .before .before .before .before .before .before .before in
     let r = j .before .before .before .before .before .before .before .before in
     let l = r .before .before in
     let a = l .before .before .before in
@@ -102,11 +102,11 @@ counted-requires c κs =
     (record { row = j .if1 .row; pool = d .pool }) (row-and-pool (j .if1 .row) (d .row) (d .pool) (d .pool) (prepared j .row) refl)
 
 add-q : tie.Need-add-q Inv-loop μ-loop
-add-q c = let h = prepared (c .before .before .before .before .before .before .before .before .before .before .before .before) .able .few in let one = c .one-if .ensures .1 in omega arith
+add-q c = let h = prepared (c .before .before .before .before .before .before .before .before .before .before .before) .able .few in let one = c .one-if .ensures .1 in omega arith
 
 add-i : tie.Need-add-i Inv-loop μ-loop
 add-i c =
-    let r = c .before .before .before .before .before .before .before .before .before .before .before .before .before .before .before .before .before .before .before .before .before in
+    let r = c .before .before .before .before .before .before .before .before .before .before .before .before .before .before .before .before .before .before .before .before in
     let few = accepted-few _ _ (r .before .before .before .before .before .pre .accepted) in
     let l = r .before .loop-test .taken in
     omega arith
@@ -118,7 +118,7 @@ loop-again c =
     let x = w .before .before in
     let g = x .before .before in
     let n = g .before .before .before in
-    let j = n .before .before .before .before in
+    let j = n .before .before .before in
     let r = j .before .before .before .before .before .before .before .before in
     let l = r .before .before in
     let a = l .before .before .before in
@@ -132,10 +132,10 @@ loop-again c =
 
 returns : tie.Need-returns Inv-loop μ-loop
 returns c =
-    let l = c .before in
+    let l = c .before .before in
     let a = l .before .before .before in
     let n = counts-are _ _ (a .pre .accepted) .0 in
-    counting-all _ _ _ _ _ _ (l .loop .inv .2) (omega arith)
+    c .ending .ensures ∙ counting-all _ _ _ _ _ _ (l .loop .inv .2) (omega arith)
 
 pub count-spec : {M : Type 1} → statement M
 count-spec =
@@ -154,19 +154,20 @@ count-spec =
     settle-requires
     (λ c. sym (c .before .before .before .before .before .before .before .before .before .before .before .loop .inv .1))
     make-room-requires
-    (λ c κs. prepared (c .before .before .before) .able .epoch)
+    (λ c κs. prepared (c .before .before) .able .epoch)
     (λ c. search needs)
-    (λ c. let h = prepared (c .before .before .before .before .before) .able .frame in omega arith)
-    (λ c. prepared (c .before .before .before .before .before) .able .frame)
-    (λ c κs. prepared (c .before .before .before .before .before .before) .able .cap)
-    (λ c κs. prepared (c .before .before .before .before .before .before .before .before) .able .frame)
-    (λ c κs. prepared (c .before .before .before .before .before .before .before .before .before .before) .able .frame)
-    (λ c. let h = prepared (c .before .before .before .before .before .before .before .before .before .before .before) .able .frame in omega arith)
-    (λ c. prepared (c .before .before .before .before .before .before .before .before .before .before .before) .able .frame)
+    (λ c. let h = prepared (c .before .before .before .before) .able .frame in omega arith)
+    (λ c. prepared (c .before .before .before .before) .able .frame)
+    (λ c κs. prepared (c .before .before .before .before .before) .able .cap)
+    (λ c κs. prepared (c .before .before .before .before .before .before .before) .able .frame)
+    (λ c κs. prepared (c .before .before .before .before .before .before .before .before .before) .able .frame)
+    (λ c. let h = prepared (c .before .before .before .before .before .before .before .before .before .before) .able .frame in omega arith)
+    (λ c. prepared (c .before .before .before .before .before .before .before .before .before .before) .able .frame)
     (λ c κs. search needs)
     add-q
     counted-requires
     add-i
-    (λ c. let l = c .before .before .before .before .before .before .before .before .before .before .before .before .before .before .before .before .before .before .before .before .before .before .loop-test .taken in omega arith)
+    (λ c. let l = c .before .before .before .before .before .before .before .before .before .before .before .before .before .before .before .before .before .before .before .before .before .loop-test .taken in omega arith)
     loop-again
+    (λ c κs. search needs)
     returns)

@@ -20,7 +20,7 @@ returns-2 c =
     let m = c .before .before in
     let a = m .before .before in
     let same = sym (settings-of _ _ (a .args .pool .settings) (a .pre .1)) ∙ sym (m .same .ensures) ∙ c .before .if1 .left in
-    counts-refused _ _ _ _ _ (trace-accepted _ _ _ _ (a .pre .0) (a .pre .1) ∙ rw same) (λ e. omega arith) (c .refused .ensures)
+    counts-refused _ _ _ _ _ (trace-accepted _ _ _ _ (a .pre .0) (a .pre .1) ∙ rw same) (λ e. omega arith) (c .ending .ensures)
 
 pub count-accepted-spec : {M : Type 1} → statement M
 count-accepted-spec = tie.close (tie.spec (λ c κs. search needs) count-requires returns (λ c κs. search needs) returns-2)

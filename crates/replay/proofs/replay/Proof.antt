@@ -12,7 +12,7 @@ returns c =
     let b = c .before .before in
     let a = b .before .before .before .before .args in
     let e = not-begun _ _ _ (sym (b .may-begin .ensures) ∙ denied (b .may-begin .result) (c .before .if1 .taken)) in
-    replay-refused _ _ _ _ _ _ _ (replay-first (a .pool) (a .tally) (now (a .bytes)) (now (a .rows)) (now (a .written)) _ e (λ e. omega arith)) (λ e. omega arith) (c .refused .ensures)
+    replay-refused _ _ _ _ _ _ _ (replay-first (a .pool) (a .tally) (now (a .bytes)) (now (a .rows)) (now (a .written)) _ e (λ e. omega arith)) (λ e. omega arith) (c .ending .ensures)
 
 replay-accepted-requires : tie.Need-replay-accepted-requires
 replay-accepted-requires c κs =
@@ -27,7 +27,7 @@ returns-2 c =
     let b = k .before .before in
     let a = b .before .before .before .before .args in
     let f = trace-refused _ _ _ _ (sym (b .may-begin .ensures) ∙ undenied (b .may-begin .result) (k .before .if1 .left)) (sym (k .check .ensures .0) ∙ c .before .before .c .given .1) in
-    replay-refused _ _ _ _ _ _ _ (replay-first (a .pool) (a .tally) (now (a .bytes)) (now (a .rows)) (now (a .written)) _ (f .0) (f .1)) (f .1) (c .refused2 .ensures)
+    replay-refused _ _ _ _ _ _ _ (replay-first (a .pool) (a .tally) (now (a .bytes)) (now (a .rows)) (now (a .written)) _ (f .0) (f .1)) (f .1) (c .ending2 .ensures)
 
 pub replay-spec : {M : Type 1} → statement M
 replay-spec =

@@ -24,7 +24,7 @@ returns-2 : tie.Need-returns-2
 returns-2 c =
     let f = c .before .before in
     let a = f .before .before .before .before in
-    replay-refused _ _ _ _ _ _ _ (replay-accepted (a .args .pool) (a .args .tally) (now (a .args .bytes)) (now (a .args .rows)) (now (a .args .written)) _ (a .pre .0) (a .pre .1) ∙ sym (f .accepted-refusal .ensures)) (c .before .if1 .left) (c .refused .ensures)
+    replay-refused _ _ _ _ _ _ _ (replay-accepted (a .args .pool) (a .args .tally) (now (a .args .bytes)) (now (a .args .rows)) (now (a .args .written)) _ (a .pre .0) (a .pre .1) ∙ sym (f .accepted-refusal .ensures)) (c .before .if1 .left) (c .ending .ensures)
 
 pub replay-accepted-spec : {M : Type 1} → statement M
 replay-accepted-spec =
