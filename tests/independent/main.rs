@@ -1,25 +1,22 @@
 //! A second program for the replay, written from the paper alone, to be held
 //! against another one. It lists traces and series, makes them from seeds,
-//! compares its listings and sheets with those of given programs, and times itself.
+//! and compares its listings and sheets with those of given programs.
 
 mod replay;
 #[cfg(test)]
 mod tests;
 mod traces;
 
-use replay::{check, go_on, Order, Pool, Replayed, Rule, Tally, Trace};
+use replay::{check, go_on, Order, Pool, Replayed, Rule, Tally};
 use std::collections::BTreeMap;
 use std::error::Error;
 use std::fmt;
-use std::hint::black_box;
 use std::io::{self, Read, Write};
 use std::process::{Command, ExitCode, Stdio};
-use std::time::{Duration, Instant};
 
 const USAGE: &str = "\
 usage: listing < TRACE
        series < ITEMS
-       counts TRACE-FILE REPEAT
        make SEED > TRACE
        makeseries SEED > ITEMS
        stored > ITEMS
@@ -49,7 +46,6 @@ fn run(arguments: &[&str]) -> Result<ExitCode, Box<dyn Error>> {
             let text = list_series(&all_of_stdin()?, &mut |_| {});
             stdout.write_all(text.as_bytes())?;
         }
-        ["counts", file, repeat] => return counts(&std::fs::read(file)?, repeat.parse()?),
         ["make", seed] => stdout.write_all(&traces::trace(seed.parse()?))?,
         ["makeseries", seed] => stdout.write_all(&traces::series(seed.parse()?))?,
         ["stored"] => stdout.write_all(&traces::stored())?,
@@ -165,50 +161,6 @@ impl fmt::Display for Replayed<'_> {
         writeln!(to, "written {}", self.tally.written)?;
         writeln!(to, "refused {}", self.tally.refused)
     }
-}
-
-// --------------------------------------------------------------- the timing
-
-fn timed(work: impl FnOnce() -> Tally) -> Duration {
-    let start = Instant::now();
-    black_box(work());
-    start.elapsed()
-}
-
-fn replayed(trace: &Trace, pool: &mut Pool) -> Tally {
-    let mut tally = Tally::default();
-    for &(page, kind) in &trace.records {
-        tally.raise(&pool.step(page, kind));
-    }
-    tally
-}
-
-/// Prints the best times for a record: check, fresh pool and replay together,
-/// and then the replay alone.
-fn counts(bytes: &[u8], repeat: u32) -> Result<ExitCode, Box<dyn Error>> {
-    let trace = match check(bytes) {
-        Ok(trace) => trace,
-        Err(refusal) => {
-            println!("trace refused {refusal}");
-            return Ok(ExitCode::FAILURE);
-        }
-    };
-    let (mut with_check, mut alone) = (Duration::MAX, Duration::MAX);
-    for _ in 0..repeat.max(1) {
-        with_check = with_check.min(timed(|| {
-            let trace = check(black_box(bytes)).expect("it was checked before");
-            replayed(&trace, &mut Pool::fresh(trace.settings))
-        }));
-        let mut pool = Pool::fresh(trace.settings);
-        alone = alone.min(timed(|| replayed(black_box(&trace), &mut pool)));
-    }
-    let a_record = |time: Duration| time.as_nanos() as f64 / trace.records.len().max(1) as f64;
-    println!(
-        "checked {:.1} replayed {:.1}",
-        a_record(with_check),
-        a_record(alone)
-    );
-    Ok(ExitCode::SUCCESS)
 }
 
 // ----------------------------------------------------------- the comparison
