@@ -1,18 +1,22 @@
 //! A second program for the replay, written from the paper alone, to be held
 //! against another one. It lists traces and series, makes them from seeds,
-//! and compares its listings and sheets with those of given programs.
+//! and compares its listings and sheets with those of given programs, then once
+//! more with the pages renamed.
 
+mod renaming;
 mod replay;
 #[cfg(test)]
 mod tests;
 mod traces;
 
+use renaming::{rename_listing, some_renamed_series, some_renamed_trace, Changed, Renaming};
 use replay::{check, go_on, Order, Pool, Replayed, Rule, Tally};
 use std::collections::BTreeMap;
 use std::error::Error;
 use std::fmt;
 use std::io::{self, Read, Write};
 use std::process::{Command, ExitCode, Stdio};
+use traces::Random;
 
 const USAGE: &str = "\
 usage: listing < TRACE
@@ -27,7 +31,7 @@ fn main() -> ExitCode {
     let arguments: Vec<String> = std::env::args().skip(1).collect();
     let arguments: Vec<&str> = arguments.iter().map(String::as_str).collect();
     match run(&arguments) {
-        Ok(code) => code,
+        Ok(()) => ExitCode::SUCCESS,
         Err(error) => {
             eprintln!("{error}");
             ExitCode::FAILURE
@@ -35,7 +39,7 @@ fn main() -> ExitCode {
     }
 }
 
-fn run(arguments: &[&str]) -> Result<ExitCode, Box<dyn Error>> {
+fn run(arguments: &[&str]) -> Result<(), Box<dyn Error>> {
     let mut stdout = io::stdout().lock();
     match arguments {
         ["listing"] => {
@@ -67,11 +71,11 @@ fn run(arguments: &[&str]) -> Result<ExitCode, Box<dyn Error>> {
             let first: u64 = first.parse()?;
             let (count, series_count) = (count.parse::<u64>()?, series_count.parse::<u64>()?);
             drop(stdout);
-            return compare([rows, bench, series], first, count, series_count);
+            compare([rows, bench, series], first, count, series_count)?;
         }
         _ => return Err(USAGE.into()),
     }
-    Ok(ExitCode::SUCCESS)
+    Ok(())
 }
 
 fn all_of_stdin() -> io::Result<Vec<u8>> {
@@ -107,15 +111,10 @@ fn list_trace(bytes: &[u8], watch: &mut dyn FnMut(&Replay)) -> String {
 
 /// The listings of a series. Each trace goes on from what the one before left;
 /// an empty item throws pool and tally away.
-fn list_series(mut bytes: &[u8], watch: &mut dyn FnMut(&Replay)) -> String {
+fn list_series(bytes: &[u8], watch: &mut dyn FnMut(&Replay)) -> String {
     let mut state = None;
     let mut text = String::new();
-    while let Some((length, rest)) = bytes.split_first_chunk::<4>() {
-        let length = u32::from_be_bytes(*length) as usize;
-        let Some((item, rest)) = rest.split_at_checked(length) else {
-            break;
-        };
-        bytes = rest;
+    for item in traces::items(bytes).0 {
         if item.is_empty() {
             state = None;
             text.push_str("anew\n");
@@ -174,6 +173,10 @@ struct Coverage {
     outcomes: BTreeMap<u32, u64>,
     /// By refusal of a trace.
     refusals: BTreeMap<u32, u64>,
+    renamed_traces: u64,
+    renamed_series: u64,
+    /// Pages that a renaming gave another number.
+    changed: Changed,
 }
 
 const OUTCOMES: [u32; 9] = [0, 1, 2, 3, 4, 109, 110, 111, 112];
@@ -195,6 +198,13 @@ impl Coverage {
         }
     }
 
+    fn note_renamed(&mut self, made: Made) {
+        match made {
+            Made::Trace => self.renamed_traces += 1,
+            Made::Series => self.renamed_series += 1,
+        }
+    }
+
     /// What should have occurred and never did. Only a series can give 9 and 15.
     fn missing(&self) -> Vec<String> {
         let outcomes = OUTCOMES
@@ -203,9 +213,18 @@ impl Coverage {
         let refusals = REFUSALS
             .iter()
             .filter(|refusal| !self.refusals.contains_key(refusal));
+        let renamed = [
+            ("a renamed trace", self.renamed_traces),
+            ("a renamed series", self.renamed_series),
+            ("another number for a page that left", self.changed.left),
+            ("another number for a written page", self.changed.written),
+            ("another number for a resident page", self.changed.resident),
+        ];
+        let renamed = renamed.iter().filter(|(_, times)| *times == 0);
         outcomes
             .map(|outcome| format!("outcome {outcome}"))
             .chain(refusals.map(|refusal| format!("trace refusal {refusal}")))
+            .chain(renamed.map(|(name, _)| name.to_string()))
             .collect()
     }
 
@@ -220,12 +239,83 @@ impl Coverage {
         };
         format!(
             "compared {count} traces and {series_count} series alike, {} records, \
-             {} traces refused; outcomes {}; trace refusals {}",
+             {} traces refused; outcomes {}; trace refusals {}; \
+             {} traces and {} series renamed alike, with other numbers for {} pages that left, \
+             {} written and {} resident",
             self.records,
             self.refused_traces,
             times(&OUTCOMES, &self.outcomes),
             times(&REFUSALS, &self.refusals),
+            self.renamed_traces,
+            self.renamed_series,
+            self.changed.left,
+            self.changed.written,
+            self.changed.resident,
         )
+    }
+}
+
+/// The programs that list a trace, print its sheet, and list a series.
+type Programs<'a> = [&'a str; 3];
+
+/// What is made from a seed.
+#[derive(Clone, Copy)]
+enum Made {
+    Trace,
+    Series,
+}
+
+impl Made {
+    fn name(self) -> &'static str {
+        match self {
+            Made::Trace => "trace",
+            Made::Series => "series",
+        }
+    }
+
+    fn renamed_name(self) -> &'static str {
+        match self {
+            Made::Trace => "renamed trace",
+            Made::Series => "renamed series",
+        }
+    }
+
+    fn from_seed(self, seed: u64) -> Vec<u8> {
+        match self {
+            Made::Trace => traces::trace(seed),
+            Made::Series => traces::series(seed),
+        }
+    }
+
+    /// The listing, and the sheet of a trace.
+    fn printed(self, bytes: &[u8], watch: &mut dyn FnMut(&Replay)) -> [String; 2] {
+        match self {
+            Made::Trace => {
+                let listing = list_trace(bytes, watch);
+                let sheet = sheet_of(bytes, &listing);
+                [listing, sheet]
+            }
+            Made::Series => [list_series(bytes, watch), String::new()],
+        }
+    }
+
+    /// The same from the programs.
+    fn printed_by(
+        self,
+        [rows, bench, series]: Programs,
+        bytes: &[u8],
+    ) -> Result<Vec<u8>, Box<dyn Error>> {
+        match self {
+            Made::Trace => Ok([output_of(rows, bytes)?, output_of(bench, bytes)?].concat()),
+            Made::Series => output_of(series, bytes),
+        }
+    }
+
+    fn renamed(self, random: &mut Random, bytes: &[u8]) -> Option<(Vec<u8>, Renaming)> {
+        match self {
+            Made::Trace => some_renamed_trace(random, bytes),
+            Made::Series => some_renamed_series(random, bytes),
+        }
     }
 }
 
@@ -288,37 +378,77 @@ fn first_difference(ours: &[u8], theirs: &[u8]) -> Option<(usize, String, String
     None
 }
 
+/// Fails at the first line in which two texts differ, and shows both forms by name.
+fn expect_alike(what: &str, names: [&str; 2], ours: &str, theirs: &[u8]) -> Result<(), String> {
+    let Some((line, ours, theirs)) = first_difference(ours.as_bytes(), theirs) else {
+        return Ok(());
+    };
+    let [our_name, their_name] = names;
+    Err(format!(
+        "{what}, line {line}: {our_name} {ours}, {their_name} {theirs}"
+    ))
+}
+
+/// What was made from a seed with its pages renamed, and what is printed of that:
+/// what was printed before, renamed. Our own replay is held against it here.
+fn renamed_alike(
+    made: Made,
+    seed: u64,
+    bytes: &[u8],
+    [listing, sheet]: &[String; 2],
+    changed: &mut Changed,
+) -> Result<Option<(Vec<u8>, String)>, String> {
+    // Other numbers than those of which the bytes were made.
+    let random = &mut Random::new(seed ^ (1 << 63));
+    let Some((bytes, renaming)) = made.renamed(random, bytes) else {
+        return Ok(None);
+    };
+    let expected = rename_listing(listing, &renaming, changed)? + sheet;
+    let replayed = made.printed(&bytes, &mut |_| {}).concat();
+    let names = ["renamed", "replayed"];
+    expect_alike(made.renamed_name(), names, &expected, replayed.as_bytes())?;
+    Ok(Some((bytes, expected)))
+}
+
+/// Compares what is printed of the bytes made from a seed, as they are and with the
+/// pages renamed.
+fn compare_one(
+    programs: Programs,
+    made: Made,
+    seed: u64,
+    coverage: &mut Coverage,
+) -> Result<(), Box<dyn Error>> {
+    let names = ["ours", "theirs"];
+    let bytes = made.from_seed(seed);
+    let ours = made.printed(&bytes, &mut |result| coverage.note(result));
+    let theirs = made.printed_by(programs, &bytes)?;
+    expect_alike(made.name(), names, &ours.concat(), &theirs)?;
+    let renamed = renamed_alike(made, seed, &bytes, &ours, &mut coverage.changed)?;
+    if let Some((bytes, ours)) = renamed {
+        let theirs = made.printed_by(programs, &bytes)?;
+        expect_alike(made.renamed_name(), names, &ours, &theirs)?;
+        coverage.note_renamed(made);
+    }
+    Ok(())
+}
+
 fn compare(
-    [rows, bench, series]: [&str; 3],
+    programs: Programs,
     first: u64,
     count: u64,
     series_count: u64,
-) -> Result<ExitCode, Box<dyn Error>> {
+) -> Result<(), Box<dyn Error>> {
     let mut coverage = Coverage::default();
-    let seeds = (first..first + count).map(|seed| ("trace", seed));
-    let series_seeds = (first..first + series_count).map(|seed| ("series", seed));
-    for (kind, seed) in seeds.chain(series_seeds) {
-        let mut watch = |result: &Replay| coverage.note(result);
-        let (ours, theirs) = if kind == "trace" {
-            let bytes = traces::trace(seed);
-            let listing = list_trace(&bytes, &mut watch);
-            let sheet = sheet_of(&bytes, &listing);
-            let theirs = [output_of(rows, &bytes)?, output_of(bench, &bytes)?].concat();
-            (listing + &sheet, theirs)
-        } else {
-            let bytes = traces::series(seed);
-            (list_series(&bytes, &mut watch), output_of(series, &bytes)?)
-        };
-        if let Some((line, ours, theirs)) = first_difference(ours.as_bytes(), &theirs) {
-            println!("seed {seed}, {kind}, line {line}: ours {ours}, theirs {theirs}");
-            return Ok(ExitCode::FAILURE);
-        }
+    let seeds = (first..first + count).map(|seed| (Made::Trace, seed));
+    let series_seeds = (first..first + series_count).map(|seed| (Made::Series, seed));
+    for (made, seed) in seeds.chain(series_seeds) {
+        compare_one(programs, made, seed, &mut coverage)
+            .map_err(|error| format!("seed {seed}, {error}"))?;
     }
     println!("{}", coverage.line(count, series_count));
     let missing = coverage.missing();
     if missing.is_empty() {
-        return Ok(ExitCode::SUCCESS);
+        return Ok(());
     }
-    println!("never occurred: {}", missing.join(", "));
-    Ok(ExitCode::FAILURE)
+    Err(format!("never occurred: {}", missing.join(", ")).into())
 }

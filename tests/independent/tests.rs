@@ -1,9 +1,12 @@
-//! The paper's examples and edges, a damaged trace for each refusal, and the
-//! soundness of the pool after every step of some generated traces.
+//! The paper's examples and edges, a damaged trace for each refusal, the
+//! renaming of pages, and the soundness of the pool after every step of some
+//! generated traces.
 
+use crate::renaming::*;
 use crate::replay::*;
-use crate::traces::{self, encode, put};
-use crate::{first_difference, list_series, list_trace};
+use crate::traces::{self, encode, put, Random};
+use crate::{first_difference, list_series, list_trace, renamed_alike, Made};
+use std::collections::{BTreeMap, BTreeSet};
 
 const BOTH: [Order; 2] = [Order::HighFirst, Order::LowFirst];
 
@@ -396,6 +399,266 @@ fn differences_are_found() {
     assert_eq!(first_difference(b"", b"a").unwrap().0, 1);
 }
 
+// --------------------------------------------------------------- the renaming
+
+#[test]
+fn renamings_are_one_to_one() {
+    let ends = BTreeSet::from([0, u32::MAX]);
+    let sets = [
+        BTreeSet::new(),
+        BTreeSet::from([0]),
+        ends.clone(),
+        (0..40).chain(u32::MAX - 40..=u32::MAX).collect(),
+    ];
+    let mut seen = [false; 5];
+    for (seed, pages) in (0..400).zip(sets.iter().cycle()) {
+        let renaming = some_renaming(&mut Random::new(seed), pages);
+        let numbers: Vec<u32> = pages.iter().map(|&page| renaming.of(page)).collect();
+        let distinct: BTreeSet<u32> = numbers.iter().copied().collect();
+        assert_eq!(distinct.len(), pages.len());
+        assert_eq!(renaming.0.len(), pages.len());
+        if pages.len() > 2 {
+            let occurred = [
+                distinct == *pages && numbers.is_sorted_by(|a, b| a > b),
+                distinct == *pages && !numbers.is_sorted_by(|a, b| a > b),
+                distinct == (0..pages.len() as u32).collect(),
+                distinct != *pages && distinct.is_superset(&ends),
+                distinct != *pages && distinct.is_disjoint(pages),
+            ];
+            seen = std::array::from_fn(|i| seen[i] || occurred[i]);
+        }
+    }
+    assert_eq!(seen, [true; 5]);
+}
+
+#[test]
+#[should_panic(expected = "page 6 has no new number")]
+fn other_pages_have_no_new_number() {
+    some_renaming(&mut Random::new(0), &BTreeSet::from([5, 7])).of(6);
+}
+
+#[test]
+fn renamed_traces_keep_the_rest() {
+    let mut marks = BTreeSet::new();
+    for seed in 0..100 {
+        let bytes = traces::trace(seed);
+        let Ok(trace) = check(&bytes) else {
+            assert!(some_renamed_trace(&mut Random::new(seed), &bytes).is_none());
+            continue;
+        };
+        let pages: BTreeSet<u32> = trace.records.iter().map(|record| record.0).collect();
+        let same = Renaming(pages.iter().map(|&page| (page, page)).collect());
+        let mut same_in_either = BOTH.iter().map(|&order| rename_trace(&trace, order, &same));
+        assert!(same_in_either.any(|same| same == bytes));
+
+        let (bytes, renaming) = some_renamed_trace(&mut Random::new(seed), &bytes).unwrap();
+        let mut expected = trace;
+        for record in &mut expected.records {
+            record.0 = renaming.of(record.0);
+        }
+        assert_eq!(check(&bytes), Ok(expected));
+        marks.insert(bytes[0]);
+    }
+    assert_eq!(marks.len(), 2);
+}
+
+#[test]
+fn renamed_series_keep_the_rest() {
+    let plain = settings(Rule::Lru, 2);
+    let other = Settings { seed: 1, ..plain };
+    let item = |settings: &Settings, page| encode(settings, Order::HighFirst, &reads(&[page]));
+    let refused = vec![7; 48];
+    let given = [
+        item(&plain, 4),
+        item(&other, 5),
+        refused.clone(),
+        vec![],
+        item(&plain, 4),
+    ];
+    let rest = [0, 0, 0, 9, 1];
+    let bytes = [&traces::joined(&given)[..], &rest].concat();
+    assert_eq!(traces::items(&bytes).0, given);
+    let (renamed, renaming) = some_renamed_series(&mut Random::new(3), &bytes).unwrap();
+    assert_eq!(renaming.0.keys().copied().collect::<Vec<_>>(), [4, 5]);
+    let (items, after) = traces::items(&renamed);
+    let page = |item: &[u8]| check(item).unwrap().records[0].0;
+    assert_eq!(page(items[0]), renaming.of(4));
+    assert_eq!(page(items[1]), renaming.of(5));
+    assert_eq!(items[2..4], [&refused[..], &[]]);
+    assert_eq!(page(items[4]), renaming.of(4));
+    assert_eq!((items.len(), after), (5, &rest[..]));
+}
+
+/// Every outcome, of the refusals one, under LRU with two frames and batches of
+/// two. Page 0 leaves dirty and, later, clean.
+const EVERY_OUTCOME: [(u32, u32); 10] = [
+    (0, W),
+    (5, R),
+    (5, W),
+    (6, P),
+    (6, R),
+    (0, R),
+    (0, P),
+    (9, R),
+    (0, U),
+    (5, R),
+];
+
+const EVERY_LISTED: &str = "\
+rows 10
+1 0 0 0
+1 1 0 0
+0 1 0 0
+3 0 0 2
+0 0 0 0
+2 1 5 0
+0 1 0 0
+110 0 0 0
+4 1 0 0
+2 1 0 0
+written 2
+0
+5
+pool 8 0 0
+frames 2
+6 0 1 1 4 : 4 3 :
+5 0 0 1 7 : 7 :
+hits 3
+misses 5
+evictions 3
+batches 1
+written 2
+refused 1
+";
+
+const EVERY_RENAMED: &str = "\
+rows 10
+1 0 0 0
+1 1 0 0
+0 1 0 0
+3 0 7 2
+0 0 0 0
+2 1 0 0
+0 1 0 0
+110 0 0 0
+4 1 0 0
+2 1 7 0
+written 2
+7
+0
+pool 8 0 0
+frames 2
+4294967295 0 1 1 4 : 4 3 :
+0 0 0 1 7 : 7 :
+hits 3
+misses 5
+evictions 3
+batches 1
+written 2
+refused 1
+";
+
+/// Page 0 gets another number, and another page 0.
+fn every_renaming() -> Renaming {
+    Renaming(BTreeMap::from([(0, 7), (5, 0), (6, u32::MAX), (9, 9)]))
+}
+
+#[test]
+fn listings_are_renamed() {
+    let two = Settings {
+        batch: 2,
+        ..settings(Rule::Lru, 2)
+    };
+    let renaming = every_renaming();
+    for order in BOTH {
+        let bytes = encode(&two, order, &EVERY_OUTCOME);
+        assert_eq!(listed(&bytes), EVERY_LISTED);
+        let renamed = rename_trace(&check(&bytes).unwrap(), order, &renaming);
+        assert_eq!(listed(&renamed), EVERY_RENAMED);
+    }
+    let series = |listing| format!("trace refused 8\n{listing}anew\nanew\n{listing}");
+    let mut changed = Changed::default();
+    let renamed = rename_listing(&series(EVERY_LISTED), &renaming, &mut changed);
+    assert_eq!(renamed, Ok(series(EVERY_RENAMED)));
+    let expected = Changed {
+        left: 6,
+        written: 4,
+        resident: 4,
+    };
+    assert_eq!(changed, expected);
+}
+
+#[test]
+fn other_lines_are_no_listing() {
+    let changes = [
+        ("rows 10", "rows 9", 11),
+        ("rows 10", "rows 11", 12),
+        ("rows 10", "10", 1),
+        ("3 0 0 2", "3 0 0", 5),
+        ("110 0 0 0", "110 0 5 0", 9),
+        ("110 0 0 0", "5 0 0 0", 9),
+        ("written 2\n0", "written 1\n0", 14),
+        ("0\n5\npool", "0\npool", 14),
+        ("pool 8 0 0", "pool 8 0", 15),
+        ("frames 2", "frames 1", 18),
+        (" : 7 :", " : 7", 18),
+        (" : 7 :", " : x :", 18),
+        ("hits 3", "hits 3 5", 19),
+        ("refused 1\n", "", 24),
+        ("refused 1\n", "refused 1\n5\n", 25),
+        ("refused 1\n", "refused 1\nanew 5\n", 25),
+    ];
+    for (from, to, line) in changes {
+        let other = EVERY_LISTED.replacen(from, to, 1);
+        let renamed = rename_listing(&other, &every_renaming(), &mut Changed::default());
+        let error = renamed.unwrap_err();
+        assert!(
+            error.starts_with(&format!("unexpected line {line} ")),
+            "{to}: {error}"
+        );
+    }
+}
+
+#[test]
+fn pages_not_renamed_are_found() {
+    let kept = [
+        ("3 0 7 2\n", "3 0 0 2\n", 5),
+        ("2 1 0 0\n", "2 1 5 0\n", 7),
+        ("written 2\n7\n", "written 2\n0\n", 13),
+        ("\n4294967295 0", "\n6 0", 17),
+    ];
+    for (new, old, line) in kept {
+        let wrong = EVERY_RENAMED.replacen(new, old, 1);
+        let difference = first_difference(EVERY_RENAMED.as_bytes(), wrong.as_bytes());
+        assert_eq!(difference.unwrap().0, line);
+    }
+}
+
+#[test]
+fn merged_pages_are_found() {
+    // Two misses become a miss and a hit, which no renaming one-to-one does.
+    let merging = Renaming(BTreeMap::from([(1, 3), (2, 3)]));
+    let bytes = encode(&settings(Rule::Lru, 1), Order::LowFirst, &reads(&[1, 2]));
+    let merged = rename_trace(&check(&bytes).unwrap(), Order::LowFirst, &merging);
+    let renamed = rename_listing(&listed(&bytes), &merging, &mut Changed::default());
+    let difference = first_difference(renamed.unwrap().as_bytes(), listed(&merged).as_bytes());
+    let forms = ["2 0 3 0\n", "0 0 0 0\n"].map(|line| format!("{line:?}"));
+    assert_eq!(difference, Some((3, forms[0].clone(), forms[1].clone())));
+}
+
+#[test]
+fn renaming_changes_nothing_else() {
+    let mut changed = Changed::default();
+    let seeds = (0..200).map(|seed| (Made::Trace, seed));
+    for (made, seed) in seeds.chain([(Made::Series, 0)]) {
+        let bytes = made.from_seed(seed);
+        let printed = made.printed(&bytes, &mut |_| {});
+        let result = renamed_alike(made, seed, &bytes, &printed, &mut changed);
+        assert_eq!(result.err(), None, "seed {seed}");
+    }
+    assert!(changed.left > 0 && changed.written > 0 && changed.resident > 0);
+}
+
 // -------------------------------------------------------- the generated traces
 
 fn sound(pool: &Pool) -> bool {
@@ -404,7 +667,7 @@ fn sound(pool: &Pool) -> bool {
     let (used, unused) = pool.frames.split_at(in_use);
     let distinct = |number: fn(&Frame) -> u32| {
         let numbers = used.iter().map(number);
-        numbers.collect::<std::collections::BTreeSet<_>>().len() == in_use
+        numbers.collect::<BTreeSet<_>>().len() == in_use
     };
     pool.frames.len() == settings.frames as usize
         && unused.iter().all(|frame| *frame == Frame::default())
@@ -472,7 +735,7 @@ fn rare(before: &Pool, after: &Pool, step: &Step) -> [(&'static str, bool); 7] {
 
 #[test]
 fn steps_leave_the_pool_sound() {
-    let mut seen = std::collections::BTreeMap::new();
+    let mut seen = BTreeMap::new();
     for seed in 0..400 {
         let Ok(trace) = check(&traces::trace(seed)) else {
             continue;
@@ -522,7 +785,7 @@ fn stored_series_has_its_outcomes() {
             Err(refusal) => Err(*refusal),
         });
     });
-    let all = std::collections::BTreeSet::from([0, 1, 2, 3, 4, 110, 111]);
+    let all = BTreeSet::from([0, 1, 2, 3, 4, 110, 111]);
     assert_eq!(seen[1..4], [(); 3].map(|_| Ok((all.clone(), true))));
     assert!(seen[4].is_ok() && seen[5].is_ok() && seen[8].is_ok());
     assert_eq!((&seen[6], &seen[7], seen.len()), (&Err(15), &Err(8), 9));

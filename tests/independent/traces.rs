@@ -22,10 +22,10 @@ type Record = (u32, u32);
 // -------------------------------------------------------------- the numbers
 
 /// Splitmix, 64 bits wide.
-struct Random(u64);
+pub struct Random(u64);
 
 impl Random {
-    fn new(seed: u64) -> Random {
+    pub fn new(seed: u64) -> Random {
         let mut random = Random(seed);
         random.next();
         random
@@ -39,17 +39,17 @@ impl Random {
         z ^ (z >> 31)
     }
 
-    fn any(&mut self) -> u32 {
+    pub fn any(&mut self) -> u32 {
         (self.next() >> 32) as u32
     }
 
     /// A number from low to high, both included.
-    fn between(&mut self, low: u32, high: u32) -> u32 {
+    pub fn between(&mut self, low: u32, high: u32) -> u32 {
         let width = u64::from(high - low) + 1;
         low + ((u64::from(self.any()) * width) >> 32) as u32
     }
 
-    fn chance(&mut self, percent: u32) -> bool {
+    pub fn chance(&mut self, percent: u32) -> bool {
         self.between(0, 99) < percent
     }
 
@@ -63,7 +63,7 @@ impl Random {
     }
 
     /// A place in a list of this length.
-    fn place(&mut self, length: usize) -> usize {
+    pub fn place(&mut self, length: usize) -> usize {
         self.between(0, length as u32 - 1) as usize
     }
 
@@ -116,7 +116,7 @@ pub fn encode(settings: &Settings, order: Order, records: &[Record]) -> Vec<u8> 
 
 // ----------------------------------------------------- settings and records
 
-fn some_order(random: &mut Random) -> Order {
+pub fn some_order(random: &mut Random) -> Order {
     random.one_of(&[Order::HighFirst, Order::LowFirst])
 }
 
@@ -504,6 +504,20 @@ fn other_trace(random: &mut Random, settings: &Settings, turn: u32) -> Vec<u8> {
 pub fn joined(items: &[Vec<u8>]) -> Vec<u8> {
     let item = |item: &Vec<u8>| [&(item.len() as u32).to_be_bytes()[..], &item[..]].concat();
     items.iter().flat_map(item).collect()
+}
+
+/// The whole items of a series, and the bytes behind them.
+pub fn items(mut bytes: &[u8]) -> (Vec<&[u8]>, &[u8]) {
+    let mut items = Vec::new();
+    while let Some((length, rest)) = bytes.split_first_chunk::<4>() {
+        let length = u32::from_be_bytes(*length) as usize;
+        let Some((item, rest)) = rest.split_at_checked(length) else {
+            break;
+        };
+        bytes = rest;
+        items.push(item);
+    }
+    (items, bytes)
 }
 
 /// The series of a seed. Ten traces go on from one another, most of them long, so that k reaches its

@@ -1,0 +1,249 @@
+//! Pages renamed one-to-one, at random: those of traces, and those of what is
+//! printed of them. Only the sameness of pages counts in a replay, so what it
+//! prints of a renamed trace is what it printed before, renamed.
+
+use crate::replay::{check, Order, Trace};
+use crate::traces::{self, Random};
+use std::collections::{BTreeMap, BTreeSet};
+use std::iter::Peekable;
+use std::str::Lines;
+
+// ------------------------------------------------------------- the renaming
+
+/// The new number of each page.
+pub struct Renaming(pub BTreeMap<u32, u32>);
+
+impl Renaming {
+    pub fn of(&self, page: u32) -> u32 {
+        match self.0.get(&page) {
+            Some(number) => *number,
+            None => panic!("page {page} has no new number"),
+        }
+    }
+
+    /// The same, and counts a page that gets another number.
+    fn counting(&self, page: u32, changed: &mut u64) -> u32 {
+        let number = self.of(page);
+        *changed += u64::from(number != page);
+        number
+    }
+}
+
+/// Gives each of the pages one of as many distinct numbers, mixed or from the
+/// greatest down.
+pub fn some_renaming(random: &mut Random, pages: &BTreeSet<u32>) -> Renaming {
+    let mut numbers = some_numbers(random, pages);
+    if random.chance(25) {
+        numbers.reverse();
+    } else {
+        for last in (1..numbers.len()).rev() {
+            numbers.swap(last, random.place(last + 1));
+        }
+    }
+    Renaming(pages.iter().copied().zip(numbers).collect())
+}
+
+/// Distinct numbers in rising order, at least as many as there are pages: those
+/// of the pages, the least there are, or any, with or without the two ends.
+fn some_numbers(random: &mut Random, pages: &BTreeSet<u32>) -> Vec<u32> {
+    let mut numbers = match random.between(0, 3) {
+        0 => pages.clone(),
+        1 => (0..pages.len() as u32).collect(),
+        2 => BTreeSet::from([0, u32::MAX]),
+        _ => BTreeSet::new(),
+    };
+    while numbers.len() < pages.len() {
+        numbers.insert(random.any());
+    }
+    numbers.into_iter().collect()
+}
+
+// --------------------------------------------------------- traces and series
+
+/// The same trace over the new pages, in this order.
+pub fn rename_trace(trace: &Trace, order: Order, renaming: &Renaming) -> Vec<u8> {
+    let records = trace.records.iter();
+    let records: Vec<(u32, u32)> = records
+        .map(|&(page, kind)| (renaming.of(page), kind as u32))
+        .collect();
+    traces::encode(&trace.settings, order, &records)
+}
+
+/// A trace with its pages renamed at random, in either order, and the renaming;
+/// nothing of a refused one.
+pub fn some_renamed_trace(random: &mut Random, bytes: &[u8]) -> Option<(Vec<u8>, Renaming)> {
+    let (items, renaming) = some_renamed_items(random, &[bytes])?;
+    Some((items.concat(), renaming))
+}
+
+/// A series with the pages of all its accepted traces renamed as one; all else in
+/// it stays as it is.
+pub fn some_renamed_series(random: &mut Random, bytes: &[u8]) -> Option<(Vec<u8>, Renaming)> {
+    let (items, rest) = traces::items(bytes);
+    let (items, renaming) = some_renamed_items(random, &items)?;
+    Some(([&traces::joined(&items)[..], rest].concat(), renaming))
+}
+
+fn some_renamed_items(random: &mut Random, items: &[&[u8]]) -> Option<(Vec<Vec<u8>>, Renaming)> {
+    let checked: Vec<_> = items.iter().map(|item| check(item)).collect();
+    let accepted = checked.iter().flatten();
+    accepted.clone().next()?;
+    let pages = accepted.flat_map(|trace| trace.records.iter().map(|(page, _)| *page));
+    let renaming = some_renaming(random, &pages.collect());
+    let renamed = items
+        .iter()
+        .zip(&checked)
+        .map(|(item, checked)| match checked {
+            Ok(trace) => rename_trace(trace, traces::some_order(random), &renaming),
+            Err(_) => item.to_vec(),
+        });
+    Some((renamed.collect(), renaming))
+}
+
+// -------------------------------------------------------------- the listings
+
+/// How many pages of listings got another number: those that left, those
+/// written, and those resident at the end.
+#[derive(Clone, Copy, Default, PartialEq, Eq, Debug)]
+pub struct Changed {
+    pub left: u64,
+    pub written: u64,
+    pub resident: u64,
+}
+
+/// What is printed of a trace or of a series, with the pages renamed and all else
+/// kept. A line that does not belong there is an error, so that no page is passed
+/// over.
+pub fn rename_listing(
+    listing: &str,
+    renaming: &Renaming,
+    changed: &mut Changed,
+) -> Result<String, String> {
+    let mut renamer = Renamer {
+        renaming,
+        lines: listing.lines().peekable(),
+        text: String::new(),
+        changed,
+    };
+    if renamer.items().is_some() {
+        return Ok(renamer.text);
+    }
+    let done = renamer.text.lines().count();
+    let line = listing.lines().nth(done).unwrap_or("(nothing)");
+    Err(format!(
+        "unexpected line {} of a listing: {line:?}",
+        done + 1
+    ))
+}
+
+/// Takes lines and puts them into the text, one for one. Each step is nothing where
+/// a line is not of the form due there.
+struct Renamer<'a> {
+    renaming: &'a Renaming,
+    lines: Peekable<Lines<'a>>,
+    text: String,
+    changed: &'a mut Changed,
+}
+
+impl Renamer<'_> {
+    fn items(&mut self) -> Option<()> {
+        while let Some(line) = self.lines.peek() {
+            if line.starts_with("anew") {
+                let [] = self.keep("anew")?;
+            } else if line.starts_with("trace") {
+                let [_] = self.keep("trace refused")?;
+            } else {
+                self.replayed()?;
+            }
+        }
+        Some(())
+    }
+
+    fn replayed(&mut self) -> Option<()> {
+        let [rows] = self.keep("rows")?;
+        for _ in 0..rows {
+            self.row()?;
+        }
+        let [written] = self.keep("written")?;
+        for _ in 0..written {
+            self.written_page()?;
+        }
+        let [_k, _hand, _sampler] = self.keep("pool")?;
+        let [frames] = self.keep("frames")?;
+        for _ in 0..frames {
+            self.frame()?;
+        }
+        let counts = [
+            "hits",
+            "misses",
+            "evictions",
+            "batches",
+            "written",
+            "refused",
+        ];
+        for count in counts {
+            let [_] = self.keep(count)?;
+        }
+        Some(())
+    }
+
+    /// A page left in the outcomes 2 and 3 alone; the 0 of others is no page.
+    fn row(&mut self) -> Option<()> {
+        let line = self.lines.next()?;
+        match numbers(line)? {
+            [outcome @ (2 | 3), frame, left, batch] => {
+                let left = self.renaming.counting(left, &mut self.changed.left);
+                self.put(&format!("{outcome} {frame} {left} {batch}"));
+            }
+            [0 | 1 | 4 | 109..=112, _, 0, 0] => self.put(line),
+            _ => return None,
+        }
+        Some(())
+    }
+
+    fn written_page(&mut self) -> Option<()> {
+        let [page] = numbers(self.lines.next()?)?;
+        let page = self.renaming.counting(page, &mut self.changed.written);
+        self.put(&page.to_string());
+        Some(())
+    }
+
+    /// The page, four numbers, and the two logs, each behind a colon.
+    fn frame(&mut self) -> Option<()> {
+        let (page, rest) = self.lines.next()?.split_once(' ')?;
+        let [page] = numbers(page)?;
+        let parts: Vec<&str> = rest.split(" :").collect();
+        let [state, access, write] = parts[..] else {
+            return None;
+        };
+        let [_dirty, _pins, _count, _last] = numbers(state)?;
+        any_numbers(access)?;
+        any_numbers(write)?;
+        let page = self.renaming.counting(page, &mut self.changed.resident);
+        self.put(&format!("{page} {rest}"));
+        Some(())
+    }
+
+    /// Keeps a line of this name and so many numbers, and gives the numbers.
+    fn keep<const N: usize>(&mut self, name: &str) -> Option<[u32; N]> {
+        let line = self.lines.next()?;
+        let numbers = numbers(line.strip_prefix(name)?)?;
+        self.put(line);
+        Some(numbers)
+    }
+
+    fn put(&mut self, line: &str) {
+        self.text.push_str(line);
+        self.text.push('\n');
+    }
+}
+
+/// The numbers of a line, exactly so many.
+fn numbers<const N: usize>(line: &str) -> Option<[u32; N]> {
+    any_numbers(line)?.try_into().ok()
+}
+
+fn any_numbers(line: &str) -> Option<Vec<u32>> {
+    let words = line.split_whitespace();
+    words.map(|word| word.parse().ok()).collect()
+}
