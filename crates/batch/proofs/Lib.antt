@@ -4,3 +4,4 @@ pub mod Cleaned
 pub mod Batching
 pub mod Whole
 pub mod Laws
+pub mod Pages

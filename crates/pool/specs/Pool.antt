@@ -39,6 +39,10 @@ frameAt fs i = getD fs i emptyFrame
 abbrev pub withCount : Frame → ℕ → Frame
 withCount fr n = record { used = fr .used; page = fr .page; dirty = fr .dirty; pins = fr .pins; count = n; last = fr .last; accesses = fr .accesses; writes = fr .writes }
 
+-- a frame with another page
+abbrev pub withPage : Frame → ℕ → Frame
+withPage fr page = record { used = fr .used; page = page; dirty = fr .dirty; pins = fr .pins; count = fr .count; last = fr .last; accesses = fr .accesses; writes = fr .writes }
+
 -- a fresh pool has no frame in use, and k and hand 0; its sampler number is the seed
 unfoldable pub emptyPool : Settings → Pool
 emptyPool s = record {

@@ -2,6 +2,7 @@ pub mod Lists
 pub mod Laws
 pub mod Accept
 pub mod Sizes
+pub mod Bytes
 pub mod Again
 pub mod Round
 pub mod Reading

@@ -1,16 +1,15 @@
 -- What every rule owes: the words in which its laws are stated, and what they share.
 use mathlib.Core.Path.{_≡_, refl, ap, sym, _∙_}
-use mathlib.Core.Bool.{true, false}
+use mathlib.Core.Bool.{Bool, true, false}
 use mathlib.Core.List.{List, [], _∷_, map}
 use Prim.Native.Nat.{ℕ, zero, suc, _≤_, _<_}
 use native.Mathlib.Omega.{arith}
-use lib.ListN.{length, set, List·getD-map}
+use lib.ListN.{length, getD, set, List·getD-map}
 use lib.Dec.{eqb}
 use Rattle.search.specs.declared.Found.the-variants.{At, Nothing}
-use Rattle.search.specs.Search.{pick}
 use Rattle.pool.specs.declared.Frame.{Frame}
 use Rattle.pool.specs.declared.Pool.{Pool}
-use Rattle.pool.specs.Pool.{frameAt, emptyFrame, withCount}
+use Rattle.pool.specs.Pool.{frameAt, emptyFrame, withCount, withPage}
 use Rattle.pool.proofs.Sound.{Sound}
 use Rattle.pool.proofs.Quiet.{Alike, Quiet}
 use Rattle.victim.specs.declared.Choice.{Choice}
@@ -20,18 +19,22 @@ use Rattle.victim.specs.Choice.{unpinned, leftBy}
 abbrev pub AllPinned : Pool → Type 0
 AllPinned p = (i : ℕ) → i < p .settings .frames → unpinned (p .frames) i ≡ false
 
--- a frame with its page renamed; one not in use is left alone
-abbrev pub repaged : (ℕ → ℕ) → Frame → Frame
-repaged ρ fr = record { used = fr .used; page = pick (fr .used) (ρ (fr .page)) (fr .page); dirty = fr .dirty; pins = fr .pins; count = fr .count; last = fr .last; accesses = fr .accesses; writes = fr .writes }
+-- a frame with another page, whichever: it depends on the page and on whether the frame is in use
+abbrev pub repaged : (Bool → ℕ → ℕ) → Frame → Frame
+repaged new fr = withPage fr (new (fr .used) (fr .page))
 
-abbrev pub repagedPool : (ℕ → ℕ) → Pool → Pool
-repagedPool ρ p = record { settings = p .settings; k = p .k; hand = p .hand; sampler = p .sampler; frames = map (repaged ρ) (p .frames); access = p .access; write = p .write }
+abbrev pub repagedPool : (Bool → ℕ → ℕ) → Pool → Pool
+repagedPool new p = record { settings = p .settings; k = p .k; hand = p .hand; sampler = p .sampler; frames = map (repaged new) (p .frames); access = p .access; write = p .write }
 
-abbrev pub repagedChoice : (ℕ → ℕ) → Choice → Choice
-repagedChoice ρ c = record { found = c .found; hand = c .hand; sampler = c .sampler; frames = map (repaged ρ) (c .frames) }
+abbrev pub repagedChoice : (Bool → ℕ → ℕ) → Choice → Choice
+repagedChoice new c = record { found = c .found; hand = c .hand; sampler = c .sampler; frames = map (repaged new) (c .frames) }
 
-pub frame-repaged : (ρ : ℕ → ℕ) (fs : List Frame) (i : ℕ) → frameAt (map (repaged ρ) fs) i ≡ repaged ρ (frameAt fs i)
-frame-repaged ρ fs i = List·getD-map (repaged ρ) fs i emptyFrame
+-- the empty frame stays as it is
+abbrev pub EmptyStays : (Bool → ℕ → ℕ) → Type 0
+EmptyStays new = new false 0 ≡ 0
+
+pub frame-repaged : (new : Bool → ℕ → ℕ) → EmptyStays new → (fs : List Frame) (i : ℕ) → frameAt (map (repaged new) fs) i ≡ repaged new (frameAt fs i)
+frame-repaged new e fs i = ap (λ (n : ℕ). getD (map (repaged new) fs) i (withPage emptyFrame n)) (sym e) ∙ List·getD-map (repaged new) fs i emptyFrame
 
 pub map-set {ℓ} : {A B : Type ℓ} (f : A → B) (l : List A) (i : ℕ) (a : A) → set (map f l) i (f a) ≡ map f (set l i a)
 map-set f [] i a = refl
@@ -65,7 +68,7 @@ pub record Owes (choose : Pool → Choice) : Type 0 where
   pub long : (p : Pool) → length (choose p .frames) ≡ length (p .frames)
   pub quiet : (p : Pool) → Sound p → Quiet p (leftBy p (choose p))
   pub sound : (p : Pool) → Sound p → Sound (leftBy p (choose p))
-  pub pages : (ρ : ℕ → ℕ) (p : Pool) → choose (repagedPool ρ p) ≡ repagedChoice ρ (choose p)
+  pub pages : (new : Bool → ℕ → ℕ) → EmptyStays new → (p : Pool) → choose (repagedPool new p) ≡ repagedChoice new (choose p)
 
 -- a choice that only lowers counts, its hand below f, is a quiet change of a sound pool
 module _ (p : Pool) (sound : Sound p) (c : Choice) (on : c .hand < p .settings .frames) (lowers : (i : ℕ) → Lowered (frameAt (p .frames) i) (frameAt (c .frames) i)) where

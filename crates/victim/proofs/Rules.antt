@@ -1,6 +1,6 @@
 -- What every rule owes, the pool's own rule owes.
 use mathlib.Core.Path.{_≡_, refl, sym, _∙_}
-use mathlib.Core.Bool.{true}
+use mathlib.Core.Bool.{Bool, true}
 use Prim.Native.Nat.{ℕ, zero, suc, _≤_, _<_}
 use native.Mathlib.Omega.{arith}
 use lib.ListN.{length}
@@ -16,7 +16,7 @@ use Rattle.victim.specs.Lru.{lruChoice}
 use Rattle.victim.specs.Clock.{clockChoice}
 use Rattle.victim.specs.Watt.{wattChoice}
 use Rattle.victim.specs.Rules.{byRule, choiceOf}
-use Rattle.victim.proofs.Owed.{AllPinned, Lowered, repagedPool, repagedChoice, Owes}
+use Rattle.victim.proofs.Owed.{AllPinned, Lowered, repagedPool, repagedChoice, EmptyStays, Owes}
 use Rattle.victim.proofs.lru.Laws.{lru-owes}
 use Rattle.victim.proofs.clock.Laws.{clock-owes}
 use Rattle.victim.proofs.watt.Laws.{watt-owes}
@@ -51,14 +51,14 @@ module _ (P : Pool → Choice → Type 0) where
   unfolding choiceOf
   by-choice p x y z = by-rule (P p) (p .settings .rule) (lruChoice p) (clockChoice p) (wattChoice p) x y z
 
-choice-pages : (ρ : ℕ → ℕ) (p : Pool) → choiceOf (repagedPool ρ p) ≡ repagedChoice ρ (choiceOf p)
+choice-pages : (new : Bool → ℕ → ℕ) → EmptyStays new → (p : Pool) → choiceOf (repagedPool new p) ≡ repagedChoice new (choiceOf p)
 unfolding choiceOf
-choice-pages ρ p = go (p .settings .rule)
+choice-pages new stays p = go (p .settings .rule)
   where
-    go : (r : ℕ) → byRule r (lruChoice (repagedPool ρ p)) (clockChoice (repagedPool ρ p)) (wattChoice (repagedPool ρ p)) ≡ repagedChoice ρ (byRule r (lruChoice p) (clockChoice p) (wattChoice p))
-    go zero = lru-owes .pages ρ p
-    go (suc zero) = clock-owes .pages ρ p
-    go (suc (suc r)) = watt-owes .pages ρ p
+    go : (r : ℕ) → byRule r (lruChoice (repagedPool new p)) (clockChoice (repagedPool new p)) (wattChoice (repagedPool new p)) ≡ repagedChoice new (byRule r (lruChoice p) (clockChoice p) (wattChoice p))
+    go zero = lru-owes .pages new stays p
+    go (suc zero) = clock-owes .pages new stays p
+    go (suc (suc r)) = watt-owes .pages new stays p
 
 pub choice-owes : Owes choiceOf
 choice-owes = record {

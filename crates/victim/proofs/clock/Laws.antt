@@ -20,7 +20,7 @@ use Rattle.pool.proofs.Quiet.{Quiet, sound-quiet}
 use Rattle.victim.specs.declared.Choice.{Choice}
 use Rattle.victim.specs.Choice.{unpinned, unmoved, leftBy}
 use Rattle.victim.specs.Clock.{rests, passedFrame, passed, nextHand, sweepFrom, visits, sweepOf, restedAt, sweptChoice, anyUnpinned, someUnpinned, clockChoice}
-use Rattle.victim.proofs.Owed.{AllPinned, repaged, repagedPool, repagedChoice, frame-repaged, map-set, Lowered, lowered-same, lowered-more, quiet-of, Owes}
+use Rattle.victim.proofs.Owed.{AllPinned, repaged, repagedPool, repagedChoice, EmptyStays, frame-repaged, map-set, Lowered, lowered-same, lowered-more, quiet-of, Owes}
 use Rattle.victim.proofs.clock.Falling.{next-below, passed-at, passed-unpinned, left, left-falls}
 use Rattle.victim.proofs.clock.Sweeping.{home, home-free, left-few}
 
@@ -118,33 +118,34 @@ swept-lowers p i = sweep-lowers (p .settings .frames * (p .settings .cap + 1)) (
 
 -- It does not look at pages.
 
-passed-repaged : (ρ : ℕ → ℕ) (fs : List Frame) (h : ℕ) → passed (map (repaged ρ) fs) h ≡ map (repaged ρ) (passed fs h)
-passed-repaged ρ fs h = ap (λ (fr : Frame). set (map (repaged ρ) fs) h (passedFrame fr)) (frame-repaged ρ fs h) ∙ map-set (repaged ρ) fs h (passedFrame (frameAt fs h))
+module _ (new : Bool → ℕ → ℕ) (stays : EmptyStays new) where
+  passed-repaged : (fs : List Frame) (h : ℕ) → passed (map (repaged new) fs) h ≡ map (repaged new) (passed fs h)
+  passed-repaged fs h = ap (λ (fr : Frame). set (map (repaged new) fs) h (passedFrame fr)) (frame-repaged new stays fs h) ∙ map-set (repaged new) fs h (passedFrame (frameAt fs h))
 
-abbrev repagedAt : (ℕ → ℕ) → ℕ × List Frame → ℕ × List Frame
-repagedAt ρ r = (r .0, map (repaged ρ) (r .1))
+  abbrev repagedAt : ℕ × List Frame → ℕ × List Frame
+  repagedAt r = (r .0, map (repaged new) (r .1))
 
-sweep-repaged : (ρ : ℕ → ℕ) (n f h : ℕ) (fs : List Frame) → sweepFrom n f h (map (repaged ρ) fs) ≡ repagedAt ρ (sweepFrom n f h fs)
-unfolding sweepFrom
-sweep-repaged ρ zero f h fs = refl
-sweep-repaged ρ (suc n) f h fs =
-    ap (λ (fr : Frame). pick (rests fr) (h, map (repaged ρ) fs) (sweepFrom n f (nextHand f h) (passed (map (repaged ρ) fs) h))) (frame-repaged ρ fs h)
-    ∙ ap (λ (gs : List Frame). pick (rests (frameAt fs h)) (h, map (repaged ρ) fs) (sweepFrom n f (nextHand f h) gs)) (passed-repaged ρ fs h)
-    ∙ ap (pick (rests (frameAt fs h)) (h, map (repaged ρ) fs)) (sweep-repaged ρ n f (nextHand f h) (passed fs h))
-    ∙ go (rests (frameAt fs h))
-  where
-    go : (b : Bool) → pick b (h, map (repaged ρ) fs) (repagedAt ρ (sweepFrom n f (nextHand f h) (passed fs h))) ≡ repagedAt ρ (pick b (h, fs) (sweepFrom n f (nextHand f h) (passed fs h)))
-    go true = refl
-    go false = refl
+  sweep-repaged : (n f h : ℕ) (fs : List Frame) → sweepFrom n f h (map (repaged new) fs) ≡ repagedAt (sweepFrom n f h fs)
+  unfolding sweepFrom
+  sweep-repaged zero f h fs = refl
+  sweep-repaged (suc n) f h fs =
+      ap (λ (fr : Frame). pick (rests fr) (h, map (repaged new) fs) (sweepFrom n f (nextHand f h) (passed (map (repaged new) fs) h))) (frame-repaged new stays fs h)
+      ∙ ap (λ (gs : List Frame). pick (rests (frameAt fs h)) (h, map (repaged new) fs) (sweepFrom n f (nextHand f h) gs)) (passed-repaged fs h)
+      ∙ ap (pick (rests (frameAt fs h)) (h, map (repaged new) fs)) (sweep-repaged n f (nextHand f h) (passed fs h))
+      ∙ go (rests (frameAt fs h))
+    where
+      go : (b : Bool) → pick b (h, map (repaged new) fs) (repagedAt (sweepFrom n f (nextHand f h) (passed fs h))) ≡ repagedAt (pick b (h, fs) (sweepFrom n f (nextHand f h) (passed fs h)))
+      go true = refl
+      go false = refl
 
-swept-repaged : (ρ : ℕ → ℕ) (p : Pool) → sweptChoice (repagedPool ρ p) ≡ repagedChoice ρ (sweptChoice p)
-unfolding sweptChoice sweepOf
-swept-repaged ρ p = ap (restedAt p) (sweep-repaged ρ (p .settings .frames * (p .settings .cap + 1)) (p .settings .frames) (p .hand) (p .frames))
+  swept-repaged : (p : Pool) → sweptChoice (repagedPool new p) ≡ repagedChoice new (sweptChoice p)
+  unfolding sweptChoice sweepOf
+  swept-repaged p = ap (restedAt p) (sweep-repaged (p .settings .frames * (p .settings .cap + 1)) (p .settings .frames) (p .hand) (p .frames))
 
-any-repaged : (ρ : ℕ → ℕ) (fs : List Frame) (f : ℕ) → anyUnpinned (map (repaged ρ) fs) f ≡ anyUnpinned fs f
-unfolding anyUnpinned
-any-repaged ρ fs f =
-    least-cong (unpinned (map (repaged ρ) fs)) (unpinned fs) never never f (λ j _. ap (λ (fr : Frame). eqb (fr .pins) 0) (frame-repaged ρ fs j)) (λ i j _ _. refl)
+  any-repaged : (fs : List Frame) (f : ℕ) → anyUnpinned (map (repaged new) fs) f ≡ anyUnpinned fs f
+  unfolding anyUnpinned
+  any-repaged fs f =
+      least-cong (unpinned (map (repaged new) fs)) (unpinned fs) never never f (λ j _. ap (λ (fr : Frame). eqb (fr .pins) 0) (frame-repaged new stays fs j)) (λ i j _ _. refl)
 
 -- Its two cases.
 
@@ -215,14 +216,14 @@ pub clock-sound : (p : Pool) → Sound p → Sound (leftBy p (clockChoice p))
 clock-sound p sound = sound-quiet p (leftBy p (clockChoice p)) sound (clock-quiet p sound)
 
 -- it does not look at page numbers
-pub clock-pages : (ρ : ℕ → ℕ) (p : Pool) → clockChoice (repagedPool ρ p) ≡ repagedChoice ρ (clockChoice p)
+pub clock-pages : (new : Bool → ℕ → ℕ) → EmptyStays new → (p : Pool) → clockChoice (repagedPool new p) ≡ repagedChoice new (clockChoice p)
 unfolding clockChoice
-clock-pages ρ p =
-    ap (λ (r : Found). pick (onFound r (λ i. true) false) (sweptChoice (repagedPool ρ p)) (unmoved (repagedPool ρ p) Nothing)) (any-repaged ρ (p .frames) (p .settings .frames))
+clock-pages new stays p =
+    ap (λ (r : Found). pick (onFound r (λ i. true) false) (sweptChoice (repagedPool new p)) (unmoved (repagedPool new p) Nothing)) (any-repaged new stays (p .frames) (p .settings .frames))
     ∙ go (someUnpinned p)
   where
-    go : (b : Bool) → pick b (sweptChoice (repagedPool ρ p)) (unmoved (repagedPool ρ p) Nothing) ≡ repagedChoice ρ (pick b (sweptChoice p) (unmoved p Nothing))
-    go true = swept-repaged ρ p
+    go : (b : Bool) → pick b (sweptChoice (repagedPool new p)) (unmoved (repagedPool new p) Nothing) ≡ repagedChoice new (pick b (sweptChoice p) (unmoved p Nothing))
+    go true = swept-repaged new stays p
     go false = refl
 
 -- where it finds none it leaves the pool as it was

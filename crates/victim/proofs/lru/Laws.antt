@@ -1,6 +1,6 @@
 -- What LRU owes.
 use mathlib.Core.Path.{_≡_, refl, ap}
-use mathlib.Core.Bool.{true}
+use mathlib.Core.Bool.{Bool, true}
 use mathlib.Core.List.{List, map}
 use Prim.Native.Nat.{ℕ, _≤_, _<_}
 use lib.ListN.{length}
@@ -15,7 +15,7 @@ use Rattle.pool.proofs.Sound.{Sound}
 use Rattle.pool.proofs.Quiet.{Quiet, sound-quiet}
 use Rattle.victim.specs.Choice.{unpinned, unmoved, leftBy}
 use Rattle.victim.specs.Lru.{older, lruVictim, lruChoice}
-use Rattle.victim.proofs.Owed.{AllPinned, repaged, repagedPool, repagedChoice, frame-repaged, Lowered, lowered-same, quiet-of, Owes}
+use Rattle.victim.proofs.Owed.{AllPinned, repaged, repagedPool, repagedChoice, EmptyStays, frame-repaged, Lowered, lowered-same, quiet-of, Owes}
 
 -- its victim lies below f and is unpinned
 pub lru-unpinned : (p : Pool) (v : ℕ) → Sound p → lruChoice p .found ≡ At v → (v < p .settings .frames) × (unpinned (p .frames) v ≡ true)
@@ -47,16 +47,17 @@ pub lru-sound : (p : Pool) → Sound p → Sound (leftBy p (lruChoice p))
 lru-sound p s = sound-quiet p (leftBy p (lruChoice p)) s (lru-quiet p s)
 
 -- it does not look at page numbers
-victim-repaged : (ρ : ℕ → ℕ) (fs : List Frame) (f : ℕ) → lruVictim (map (repaged ρ) fs) f ≡ lruVictim fs f
-unfolding lruVictim
-victim-repaged ρ fs f =
-    least-cong (unpinned (map (repaged ρ) fs)) (unpinned fs) (older (map (repaged ρ) fs)) (older fs) f
-    (λ j _. ap (λ (fr : Frame). eqb (fr .pins) 0) (frame-repaged ρ fs j))
-    (λ i j _ _. rw (frame-repaged ρ fs i, frame-repaged ρ fs j))
+module _ (new : Bool → ℕ → ℕ) (stays : EmptyStays new) where
+  victim-repaged : (fs : List Frame) (f : ℕ) → lruVictim (map (repaged new) fs) f ≡ lruVictim fs f
+  unfolding lruVictim
+  victim-repaged fs f =
+      least-cong (unpinned (map (repaged new) fs)) (unpinned fs) (older (map (repaged new) fs)) (older fs) f
+      (λ j _. ap (λ (fr : Frame). eqb (fr .pins) 0) (frame-repaged new stays fs j))
+      (λ i j _ _. rw (frame-repaged new stays fs i, frame-repaged new stays fs j))
 
-pub lru-pages : (ρ : ℕ → ℕ) (p : Pool) → lruChoice (repagedPool ρ p) ≡ repagedChoice ρ (lruChoice p)
-unfolding lruChoice
-lru-pages ρ p = ap (unmoved (repagedPool ρ p)) (victim-repaged ρ (p .frames) (p .settings .frames))
+  pub lru-pages : (p : Pool) → lruChoice (repagedPool new p) ≡ repagedChoice new (lruChoice p)
+  unfolding lruChoice
+  lru-pages p = ap (unmoved (repagedPool new p)) (victim-repaged (p .frames) (p .settings .frames))
 
 -- where it finds none it leaves the pool as it was
 pub lru-still : (p : Pool) → lruChoice p .found ≡ Nothing → leftBy p (lruChoice p) ≡ p

@@ -19,7 +19,27 @@ use Rattle.victim.specs.Choice.{unpinned, leftBy}
 use Rattle.victim.specs.Watt.{valueAt, lessValue, leastValue, drawnFrame, wattVictim, wattChoice}
 use Rattle.worth.proofs.Order.{less-asym, less-weak}
 use Rattle.victim.proofs.watt.Values.{value-positive}
-use Rattle.victim.proofs.Owed.{AllPinned, repagedPool, repagedChoice, frame-repaged, lowered-same, quiet-of, Owes}
+use Rattle.victim.proofs.Owed.{AllPinned, repagedPool, repagedChoice, EmptyStays, frame-repaged, lowered-same, quiet-of, Owes}
+
+-- it does not look at page numbers
+module _ (new : Bool → ℕ → ℕ) (stays : EmptyStays new) (p : Pool) where
+  pub value-repaged : (i : ℕ) → valueAt (repagedPool new p) i ≡ valueAt p i
+  unfolding valueAt nowOf
+  value-repaged i = rw (frame-repaged new stays (p .frames) i)
+
+  least-repaged : (counts : ℕ → Bool) → leastValue (repagedPool new p) counts ≡ leastValue p counts
+  least-repaged counts =
+      least-cong (λ i. counts i && unpinned (repagedPool new p .frames) i) (λ i. counts i && unpinned (p .frames) i) (lessValue (repagedPool new p)) (lessValue p) (p .settings .frames)
+      (λ j _. ap (λ (fr : Frame). counts j && eqb (fr .pins) 0) (frame-repaged new stays (p .frames) j))
+      (λ i j _ _. rw (value-repaged i, value-repaged j))
+
+  victim-repaged : wattVictim (repagedPool new p) ≡ wattVictim p
+  unfolding wattVictim
+  victim-repaged = rw (least-repaged (drawnFrame p), least-repaged (λ _. true))
+
+  pub watt-pages : wattChoice (repagedPool new p) ≡ repagedChoice new (wattChoice p)
+  unfolding wattChoice
+  watt-pages = rw (victim-repaged)
 
 module _ (p : Pool) where
   -- every drawn frame below f is pinned
@@ -127,26 +147,6 @@ module _ (p : Pool) where
   -- what it leaves is sound
   pub watt-sound : Sound p → Sound (leftBy p (wattChoice p))
   watt-sound s = sound-quiet p (leftBy p (wattChoice p)) s (watt-quiet s)
-
--- it does not look at page numbers
-module _ (ρ : ℕ → ℕ) (p : Pool) where
-  value-repaged : (i : ℕ) → valueAt (repagedPool ρ p) i ≡ valueAt p i
-  unfolding valueAt nowOf
-  value-repaged i = rw (frame-repaged ρ (p .frames) i)
-
-  least-repaged : (counts : ℕ → Bool) → leastValue (repagedPool ρ p) counts ≡ leastValue p counts
-  least-repaged counts =
-      least-cong (eligible (repagedPool ρ p) counts) (eligible p counts) (lessValue (repagedPool ρ p)) (lessValue p) (p .settings .frames)
-      (λ j _. ap (λ (fr : Frame). counts j && eqb (fr .pins) 0) (frame-repaged ρ (p .frames) j))
-      (λ i j _ _. rw (value-repaged i, value-repaged j))
-
-  victim-repaged : wattVictim (repagedPool ρ p) ≡ wattVictim p
-  unfolding wattVictim
-  victim-repaged = rw (least-repaged (drawnFrame p), least-repaged (λ _. true))
-
-  pub watt-pages : wattChoice (repagedPool ρ p) ≡ repagedChoice ρ (wattChoice p)
-  unfolding wattChoice
-  watt-pages = rw (victim-repaged)
 
 -- where it finds none it leaves the pool as it was
 pub watt-still : (p : Pool) → wattChoice p .found ≡ Nothing → leftBy p (wattChoice p) ≡ p

@@ -1,0 +1,55 @@
+-- The batch does not look at pages: with other pages it has the same frames, and what it leaves has those pages.
+use mathlib.Core.Path.{_≡_, refl, ap, _∙_}
+use mathlib.Core.Bool.{Bool, _&&_, not}
+use mathlib.Core.List.{List, [], _∷_, map}
+use Prim.Native.Nat.{ℕ, zero, suc, _-_}
+use lib.ListN.{set}
+use lib.Dec.{eqb}
+use Rattle.search.specs.Search.{pick}
+use Rattle.pool.specs.declared.Frame.{Frame}
+use Rattle.pool.specs.declared.Pool.{Pool}
+use Rattle.pool.specs.Pool.{frameAt}
+use Rattle.victim.specs.Lru.{older}
+use Rattle.victim.specs.Watt.{lessValue}
+use Rattle.victim.specs.Rules.{byRule}
+use Rattle.victim.proofs.Owed.{repaged, repagedPool, EmptyStays, frame-repaged, map-set}
+use Rattle.victim.proofs.watt.Laws.{value-repaged}
+use Rattle.batch.specs.Taken.{othersTo}
+use Rattle.batch.specs.Batch.{sooner, batchOrder, waits, batchOf, cleanFrame, cleaned}
+use Rattle.batch.proofs.Whole.{others-same}
+
+module _ (new : Bool → ℕ → ℕ) (stays : EmptyStays new) where
+  module _ (p : Pool) where
+    abbrev fs : List Frame
+    fs = p .frames
+
+    abbrev q : Pool
+    q = repagedPool new p
+
+    -- the order of each rule
+    order-repaged : (i j : ℕ) → batchOrder q i j ≡ batchOrder p i j
+    unfolding batchOrder
+    order-repaged i j = go (p .settings .rule)
+      where
+        go : (r : ℕ) → byRule r (older (q .frames) i j) (sooner q i j) (lessValue q i j) ≡ byRule r (older fs i j) (sooner p i j) (lessValue p i j)
+        go zero = rw (frame-repaged new stays fs i, frame-repaged new stays fs j)
+        go (suc zero) = rw (frame-repaged new stays fs i, frame-repaged new stays fs j)
+        go (suc (suc r)) = rw (value-repaged new stays p i, value-repaged new stays p j)
+
+    waits-repaged : (v i : ℕ) → waits q v i ≡ waits p v i
+    waits-repaged v i = ap (λ (fr : Frame). (fr .dirty && eqb (fr .pins) 0) && not (eqb v i)) (frame-repaged new stays fs i)
+
+    pub batch-repaged : (v : ℕ) → batchOf q v ≡ batchOf p v
+    unfolding batchOf
+    batch-repaged v =
+        ap (λ (fr : Frame). pick (fr .dirty) (v ∷ othersTo (waits q v) (batchOrder q) (p .settings .frames) (p .settings .batch - 1)) []) (frame-repaged new stays fs v)
+        ∙ ap (λ (l : List ℕ). pick (frameAt fs v .dirty) (v ∷ l) [])
+        (others-same (waits q v) (waits p v) (batchOrder q) (batchOrder p) (p .settings .frames) (λ i _. waits-repaged v i) (λ i j _ _ _ _. order-repaged i j) (p .settings .batch - 1))
+
+  pub cleaned-repaged : (fs : List Frame) (xs : List ℕ) → cleaned (map (repaged new) fs) xs ≡ map (repaged new) (cleaned fs xs)
+  unfolding cleaned
+  cleaned-repaged fs [] = refl
+  cleaned-repaged fs (x ∷ xs) =
+      ap (λ (fr : Frame). cleaned (set (map (repaged new) fs) x (cleanFrame fr)) xs) (frame-repaged new stays fs x)
+      ∙ ap (λ (gs : List Frame). cleaned gs xs) (map-set (repaged new) fs x (cleanFrame (frameAt fs x)))
+      ∙ cleaned-repaged (set fs x (cleanFrame (frameAt fs x))) xs

@@ -1,0 +1,12 @@
+pub mod Frames
+pub mod Reference
+pub mod Residents
+pub mod Record
+pub mod Pages
+pub mod Sound
+pub mod Replay
+pub mod Sameness
+pub mod Calls
+pub mod Steps
+pub mod Composed
+pub mod Needed

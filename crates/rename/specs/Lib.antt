@@ -1,0 +1,4 @@
+pub mod Renamed
+pub mod Sameness
+pub mod Calls
+pub mod Composed

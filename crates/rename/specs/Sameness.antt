@@ -1,0 +1,58 @@
+-- Only sameness of page numbers counts: what is given, and what then holds.
+use Prim.Native.Nat.{ℕ, _<_}
+use mathlib.Core.Path.{_≡_}
+use mathlib.Core.Bool.{true}
+use mathlib.Core.List.{List, [], _∷_, _++_}
+use lib.ListN.{length, getD}
+use Rattle.search.specs.Search.{pick, among}
+use Rattle.word.specs.declared.Order.{Order}
+use Rattle.trace.specs.Layout.{Trace}
+use Rattle.trace.specs.declared.Checked.the-variants.{Accepted}
+use Rattle.trace.specs.Check.{refusalOf, traceOf, checkOf}
+use Rattle.pool.specs.declared.Frame.{Frame}
+use Rattle.pool.specs.declared.Pool.{Pool}
+use Rattle.pool.specs.Pool.{frameAt}
+use Rattle.pool.specs.Sound.{soundPool}
+use Rattle.tally.specs.declared.Tally.{Tally}
+use Rattle.replay.specs.Replay.{replayOf}
+use Rattle.rename.specs.Renamed.{renamedPool, renamedTrace, renamedBytes, renamedPlayed}
+
+-- the pages of the frames in use
+unfoldable pub residentPages : List Frame → List ℕ
+residentPages [] = []
+residentPages (fr ∷ fs) = pick (fr .used) (fr .page ∷ []) [] ++ residentPages fs
+
+-- the pages of trace and pool taken together
+abbrev pub pagesTogether : Pool → Trace → List ℕ
+pagesTogether p t = t .pages ++ residentPages (p .frames)
+
+-- "one-to-one": ρ never gives two different pages of the list one number; and it gives 4-byte numbers. Of other numbers nothing is asked
+pub record Renames (ρ : ℕ → ℕ) (pages : List ℕ) : Type 0 where
+  pub one-to-one : (a b : ℕ) → among pages a ≡ true → among pages b ≡ true → ρ a ≡ ρ b → a ≡ b
+  pub four-bytes : (a : ℕ) → among pages a ≡ true → ρ a < 4294967296
+
+-- numbers and arrays as the memory of a host holds them: bytes, pages of 4 bytes, and the lengths of a pool's arrays
+pub record Stored (p : Pool) (s : List ℕ) : Type 0 where
+  pub bytes : (i : ℕ) → getD s i 0 < 256
+  pub pages : (i : ℕ) → i < 128 → frameAt (p .frames) i .page < 4294967296
+  pub frames : length (p .frames) ≡ 128
+  pub access : length (p .access) ≡ 1024
+  pub write : length (p .write) ≡ 512
+
+-- any sound pool, and any accepted trace, with the pool's settings or, where both replays are refused, with others
+pub record Given (p : Pool) (s : List ℕ) : Type 0 where
+  pub stored : Stored p s
+  pub sound : soundPool p ≡ true
+  pub accepted : refusalOf s ≡ 0
+
+-- then the renamed pool is sound and the renamed trace, written in either order, is accepted; with the same settings, count and kinds; and its replay
+-- from the renamed pool, with any tally, is the renamed replay
+pub record OnlySameness (ρ : ℕ → ℕ) (p : Pool) (t : Tally) (s : List ℕ) : Type 0 where
+  pub given : (o : Order) → Given (renamedPool ρ p) (renamedBytes ρ o s)
+  pub accepted : (o : Order) → checkOf (renamedBytes ρ o s) ≡ Accepted (record { settings = traceOf s .settings; order = o; count = length (traceOf s .pages) })
+  pub read : (o : Order) → traceOf (renamedBytes ρ o s) ≡ renamedTrace ρ o (traceOf s)
+  pub replayed : (o : Order) → replayOf (renamedPool ρ p) t (traceOf (renamedBytes ρ o s)) ≡ renamedPlayed ρ (replayOf p t (traceOf s))
+
+-- the demand, of every rule
+abbrev pub Demand : Type 0
+Demand = (ρ : ℕ → ℕ) (p : Pool) (t : Tally) (s : List ℕ) → Given p s → Renames ρ (pagesTogether p (traceOf s)) → OnlySameness ρ p t s
