@@ -1,4 +1,4 @@
--- Renaming by one rule and then by another is renaming once by both.
+-- Renaming by ρ and then by σ is renaming once by both.
 use mathlib.Core.Path.{_≡_, refl, ap, subst, _∙_}
 use mathlib.Core.Bool.{Bool, true, false}
 use mathlib.Core.List.{List, [], _∷_, map, map-map}

@@ -1,4 +1,4 @@
--- That no two pages may get one number is needed: a pool, a trace, and a rule that merges two pages.
+-- That no two pages may get one number is needed: a pool, a trace, and a renaming that merges two pages.
 use mathlib.Core.Path.{_≡_, refl, ap, sym, _∙_}
 use mathlib.Core.Bool.{true}
 use mathlib.Core.List.{List, [], _∷_}
@@ -82,7 +82,7 @@ pub counts-after : replayOf (renamedPool merging pool) zeroTally (traceOf (renam
 unfolding countedBy replayTo recordOf referenceOf hitOf missOf evictionOf leavingOf emptyPool findPage lowestUnused leastBelow referred hitAt fetchedAt
 counts-after = rw merged-trace refl
 
--- the demand of every rule that gives 4-byte numbers, merging or not
+-- the demand of every renaming to 4-byte numbers, merging or not
 abbrev pub DemandOfAny : Type 0
 DemandOfAny = (ρ : ℕ → ℕ) (p : Pool) (t : Tally) (s : List ℕ) → Given p s → ((a : ℕ) → ρ a < 4294967296) → OnlySameness ρ p t s
 

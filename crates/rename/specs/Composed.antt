@@ -1,4 +1,4 @@
--- Renaming by one rule and then by another is renaming once by both.
+-- Renaming by ρ and then by σ is renaming once by both.
 use Prim.Native.Nat.{ℕ}
 use mathlib.Core.Path.{_≡_}
 use mathlib.Core.List.{List}
@@ -10,7 +10,7 @@ use Rattle.replay.specs.Replay.{Played}
 use Rattle.rename.specs.Renamed.{renamedPages, renamedPool, renamedTrace, renamedRow, renamedPlayed}
 use Rattle.rename.specs.Sameness.{pagesTogether, Renames}
 
--- by one rule, and then by another
+-- by ρ, and then by σ
 abbrev pub inTurn : (ℕ → ℕ) → (ℕ → ℕ) → ℕ → ℕ
 inTurn ρ σ page = σ (ρ page)
 

@@ -1,4 +1,4 @@
--- Renaming pages by a rule ρ: what a pool, a list, a trace, a row and an answer become.
+-- Renaming pages by ρ, any numbers for numbers: what a list, a pool, a trace, a row and an answer become.
 use Prim.Native.Nat.{ℕ}
 use mathlib.Core.Bool.{Bool}
 use mathlib.Core.List.{List, map}

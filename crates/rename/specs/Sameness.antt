@@ -1,5 +1,5 @@
 -- Only sameness of page numbers counts: what is given, and what then holds.
-use Prim.Native.Nat.{ℕ, _<_}
+use Prim.Native.Nat.{ℕ, _*_, _<_}
 use mathlib.Core.Path.{_≡_}
 use mathlib.Core.Bool.{true}
 use mathlib.Core.List.{List, [], _∷_, _++_}
@@ -11,7 +11,7 @@ use Rattle.trace.specs.declared.Checked.the-variants.{Accepted}
 use Rattle.trace.specs.Check.{refusalOf, traceOf, checkOf}
 use Rattle.pool.specs.declared.Frame.{Frame}
 use Rattle.pool.specs.declared.Pool.{Pool}
-use Rattle.pool.specs.Pool.{frameAt}
+use Rattle.pool.specs.Pool.{frameRoom, accessRoom, writeRoom, frameAt}
 use Rattle.pool.specs.Sound.{soundPool}
 use Rattle.tally.specs.declared.Tally.{Tally}
 use Rattle.replay.specs.Replay.{replayOf}
@@ -34,18 +34,18 @@ pub record Renames (ρ : ℕ → ℕ) (pages : List ℕ) : Type 0 where
 -- numbers and arrays as the memory of a host holds them: bytes, pages of 4 bytes, and the lengths of a pool's arrays
 pub record Stored (p : Pool) (s : List ℕ) : Type 0 where
   pub bytes : (i : ℕ) → getD s i 0 < 256
-  pub pages : (i : ℕ) → i < 128 → frameAt (p .frames) i .page < 4294967296
-  pub frames : length (p .frames) ≡ 128
-  pub access : length (p .access) ≡ 1024
-  pub write : length (p .write) ≡ 512
+  pub pages : (i : ℕ) → i < frameRoom → frameAt (p .frames) i .page < 4294967296
+  pub frames : length (p .frames) ≡ frameRoom
+  pub access : length (p .access) ≡ frameRoom * accessRoom
+  pub write : length (p .write) ≡ frameRoom * writeRoom
 
--- any sound pool, and any accepted trace, with the pool's settings or, where both replays are refused, with others
+-- any sound pool, and any accepted trace; that it has the pool's settings is not asked, since where it has others the calls refuse both by 15
 pub record Given (p : Pool) (s : List ℕ) : Type 0 where
   pub stored : Stored p s
   pub sound : soundPool p ≡ true
   pub accepted : refusalOf s ≡ 0
 
--- then the renamed pool is sound and the renamed trace, written in either order, is accepted; with the same settings, count and kinds; and its replay
+-- then the renamed pool is sound, and the renamed trace, written in either order, is accepted, with the same settings, count and kinds; and its replay
 -- from the renamed pool, with any tally, is the renamed replay
 pub record OnlySameness (ρ : ℕ → ℕ) (p : Pool) (t : Tally) (s : List ℕ) : Type 0 where
   pub given : (o : Order) → Given (renamedPool ρ p) (renamedBytes ρ o s)
@@ -53,6 +53,6 @@ pub record OnlySameness (ρ : ℕ → ℕ) (p : Pool) (t : Tally) (s : List ℕ)
   pub read : (o : Order) → traceOf (renamedBytes ρ o s) ≡ renamedTrace ρ o (traceOf s)
   pub replayed : (o : Order) → replayOf (renamedPool ρ p) t (traceOf (renamedBytes ρ o s)) ≡ renamedPlayed ρ (replayOf p t (traceOf s))
 
--- the demand, of every rule
+-- the demand, under every replacement rule, since the pool's settings name it
 abbrev pub Demand : Type 0
 Demand = (ρ : ℕ → ℕ) (p : Pool) (t : Tally) (s : List ℕ) → Given p s → Renames ρ (pagesTogether p (traceOf s)) → OnlySameness ρ p t s
