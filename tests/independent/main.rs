@@ -173,14 +173,16 @@ struct Coverage {
     outcomes: BTreeMap<u32, u64>,
     /// By refusal of a trace.
     refusals: BTreeMap<u32, u64>,
-    renamed_traces: u64,
-    renamed_series: u64,
-    /// Pages that a renaming gave another number.
-    changed: Changed,
+    changes: Changes,
 }
+
+/// What renamings changed, by what was renamed.
+type Changes = BTreeMap<String, Changed>;
 
 const OUTCOMES: [u32; 9] = [0, 1, 2, 3, 4, 109, 110, 111, 112];
 const REFUSALS: [u32; 9] = [1, 2, 3, 4, 5, 6, 7, 8, 15];
+/// Traces by the first line of their sheet, and series, which have none.
+const RENAMED: [&str; 4] = ["policy lru", "policy clock", "policy watt", "series"];
 
 impl Coverage {
     fn note(&mut self, result: &Replay) {
@@ -198,13 +200,6 @@ impl Coverage {
         }
     }
 
-    fn note_renamed(&mut self, made: Made) {
-        match made {
-            Made::Trace => self.renamed_traces += 1,
-            Made::Series => self.renamed_series += 1,
-        }
-    }
-
     /// What should have occurred and never did. Only a series can give 9 and 15.
     fn missing(&self) -> Vec<String> {
         let outcomes = OUTCOMES
@@ -213,18 +208,10 @@ impl Coverage {
         let refusals = REFUSALS
             .iter()
             .filter(|refusal| !self.refusals.contains_key(refusal));
-        let renamed = [
-            ("a renamed trace", self.renamed_traces),
-            ("a renamed series", self.renamed_series),
-            ("another number for a page that left", self.changed.left),
-            ("another number for a written page", self.changed.written),
-            ("another number for a resident page", self.changed.resident),
-        ];
-        let renamed = renamed.iter().filter(|(_, times)| *times == 0);
         outcomes
             .map(|outcome| format!("outcome {outcome}"))
             .chain(refusals.map(|refusal| format!("trace refusal {refusal}")))
-            .chain(renamed.map(|(name, _)| name.to_string()))
+            .chain(never_changed(&self.changes))
             .collect()
     }
 
@@ -240,19 +227,43 @@ impl Coverage {
         format!(
             "compared {count} traces and {series_count} series alike, {} records, \
              {} traces refused; outcomes {}; trace refusals {}; \
-             {} traces and {} series renamed alike, with other numbers for {} pages that left, \
-             {} written and {} resident",
+             renamed alike, and the pages with other numbers: {}",
             self.records,
             self.refused_traces,
             times(&OUTCOMES, &self.outcomes),
             times(&REFUSALS, &self.refusals),
-            self.renamed_traces,
-            self.renamed_series,
-            self.changed.left,
-            self.changed.written,
-            self.changed.resident,
+            changes_line(&self.changes),
         )
     }
+}
+
+/// What was renamed, each with what changed in it.
+fn by_name(changes: &Changes) -> [(&'static str, Changed); RENAMED.len()] {
+    RENAMED.map(|name| (name, changes.get(name).copied().unwrap_or_default()))
+}
+
+/// What renamings should have changed and never did. Most pages of a series are
+/// those of refused traces, so the one that becomes 0 is seldom listed there.
+fn never_changed(changes: &Changes) -> Vec<String> {
+    let mut never = Vec::new();
+    for (renamed, changed) in by_name(changes) {
+        for (name, times) in changed.named() {
+            if times == 0 && (renamed, name) != ("series", "that became 0") {
+                never.push(format!("{renamed} renamed: {name}"));
+            }
+        }
+    }
+    never
+}
+
+fn changes_line(changes: &Changes) -> String {
+    let parts = by_name(changes).map(|(renamed, changed)| {
+        let counts = changed
+            .named()
+            .map(|(name, times)| format!("{times} {name}"));
+        format!("{renamed}, {}", counts.join(", "))
+    });
+    parts.join("; ")
 }
 
 /// The programs that list a trace, print its sheet, and list a series.
@@ -273,11 +284,8 @@ impl Made {
         }
     }
 
-    fn renamed_name(self) -> &'static str {
-        match self {
-            Made::Trace => "renamed trace",
-            Made::Series => "renamed series",
-        }
+    fn renamed_name(self) -> String {
+        format!("renamed {}", self.name())
     }
 
     fn from_seed(self, seed: u64) -> Vec<u8> {
@@ -390,23 +398,30 @@ fn expect_alike(what: &str, names: [&str; 2], ours: &str, theirs: &[u8]) -> Resu
 }
 
 /// What was made from a seed with its pages renamed, and what is printed of that:
-/// what was printed before, renamed. Our own replay is held against it here.
+/// what was printed before, renamed. Our own replay is held against it here. Nothing
+/// is renamed where no trace was accepted, and only there.
 fn renamed_alike(
     made: Made,
     seed: u64,
     bytes: &[u8],
     [listing, sheet]: &[String; 2],
-    changed: &mut Changed,
+    changes: &mut Changes,
 ) -> Result<Option<(Vec<u8>, String)>, String> {
     // Other numbers than those of which the bytes were made.
     let random = &mut Random::new(seed ^ (1 << 63));
-    let Some((bytes, renaming)) = made.renamed(random, bytes) else {
-        return Ok(None);
+    let accepted = listing.lines().any(|line| line.starts_with("rows "));
+    let (bytes, renaming) = match (accepted, made.renamed(random, bytes)) {
+        (true, Some(renamed)) => renamed,
+        (false, None) => return Ok(None),
+        (true, None) => return Err(format!("{} accepted, but not renamed", made.name())),
+        (false, Some(_)) => return Err(format!("{} refused, but renamed", made.name())),
     };
+    let what = sheet.lines().next().unwrap_or(made.name());
+    let changed = changes.entry(what.to_string()).or_default();
     let expected = rename_listing(listing, &renaming, changed)? + sheet;
     let replayed = made.printed(&bytes, &mut |_| {}).concat();
     let names = ["renamed", "replayed"];
-    expect_alike(made.renamed_name(), names, &expected, replayed.as_bytes())?;
+    expect_alike(&made.renamed_name(), names, &expected, replayed.as_bytes())?;
     Ok(Some((bytes, expected)))
 }
 
@@ -423,11 +438,10 @@ fn compare_one(
     let ours = made.printed(&bytes, &mut |result| coverage.note(result));
     let theirs = made.printed_by(programs, &bytes)?;
     expect_alike(made.name(), names, &ours.concat(), &theirs)?;
-    let renamed = renamed_alike(made, seed, &bytes, &ours, &mut coverage.changed)?;
+    let renamed = renamed_alike(made, seed, &bytes, &ours, &mut coverage.changes)?;
     if let Some((bytes, ours)) = renamed {
         let theirs = made.printed_by(programs, &bytes)?;
-        expect_alike(made.renamed_name(), names, &ours, &theirs)?;
-        coverage.note_renamed(made);
+        expect_alike(&made.renamed_name(), names, &ours, &theirs)?;
     }
     Ok(())
 }

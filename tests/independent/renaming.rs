@@ -1,6 +1,7 @@
 //! Pages renamed one-to-one, at random: those of traces, and those of what is
 //! printed of them. Only the sameness of pages counts in a replay, so what it
-//! prints of a renamed trace is what it printed before, renamed.
+//! prints of a renamed trace is what it printed before, renamed. Unused frames are
+//! not printed, so that no listing can show a page of theirs renamed.
 
 use crate::replay::{check, Order, Trace};
 use crate::traces::{self, Random};
@@ -11,6 +12,7 @@ use std::str::Lines;
 // ------------------------------------------------------------- the renaming
 
 /// The new number of each page.
+#[derive(Clone)]
 pub struct Renaming(pub BTreeMap<u32, u32>);
 
 impl Renaming {
@@ -19,13 +21,6 @@ impl Renaming {
             Some(number) => *number,
             None => panic!("page {page} has no new number"),
         }
-    }
-
-    /// The same, and counts a page that gets another number.
-    fn counting(&self, page: u32, changed: &mut u64) -> u32 {
-        let number = self.of(page);
-        *changed += u64::from(number != page);
-        number
     }
 }
 
@@ -86,8 +81,10 @@ pub fn some_renamed_series(random: &mut Random, bytes: &[u8]) -> Option<(Vec<u8>
 
 fn some_renamed_items(random: &mut Random, items: &[&[u8]]) -> Option<(Vec<Vec<u8>>, Renaming)> {
     let checked: Vec<_> = items.iter().map(|item| check(item)).collect();
+    if checked.iter().all(Result::is_err) {
+        return None;
+    }
     let accepted = checked.iter().flatten();
-    accepted.clone().next()?;
     let pages = accepted.flat_map(|trace| trace.records.iter().map(|(page, _)| *page));
     let renaming = some_renaming(random, &pages.collect());
     let renamed = items
@@ -102,13 +99,31 @@ fn some_renamed_items(random: &mut Random, items: &[&[u8]]) -> Option<(Vec<Vec<u
 
 // -------------------------------------------------------------- the listings
 
-/// How many pages of listings got another number: those that left, those
-/// written, and those resident at the end.
+/// How many listings were renamed, and how many of their pages got another number:
+/// those that left, those written, and those resident at the end. Of all these,
+/// how many were 0, and how many became 0.
 #[derive(Clone, Copy, Default, PartialEq, Eq, Debug)]
 pub struct Changed {
+    pub listings: u64,
     pub left: u64,
     pub written: u64,
     pub resident: u64,
+    pub were_zero: u64,
+    pub became_zero: u64,
+}
+
+impl Changed {
+    /// Each of them by its name.
+    pub fn named(&self) -> [(&'static str, u64); 6] {
+        [
+            ("listings", self.listings),
+            ("pages that left", self.left),
+            ("written", self.written),
+            ("resident", self.resident),
+            ("that were 0", self.were_zero),
+            ("that became 0", self.became_zero),
+        ]
+    }
 }
 
 /// What is printed of a trace or of a series, with the pages renamed and all else
@@ -126,6 +141,7 @@ pub fn rename_listing(
         changed,
     };
     if renamer.items().is_some() {
+        renamer.changed.listings += 1;
         return Ok(renamer.text);
     }
     let done = renamer.text.lines().count();
@@ -147,9 +163,10 @@ struct Renamer<'a> {
 
 impl Renamer<'_> {
     fn items(&mut self) -> Option<()> {
-        while let Some(line) = self.lines.peek() {
-            if line.starts_with("anew") {
-                let [] = self.keep("anew")?;
+        while let Some(&line) = self.lines.peek() {
+            if line == "anew" {
+                self.lines.next();
+                self.put(line);
             } else if line.starts_with("trace") {
                 let [_] = self.keep("trace refused")?;
             } else {
@@ -192,7 +209,7 @@ impl Renamer<'_> {
         let line = self.lines.next()?;
         match numbers(line)? {
             [outcome @ (2 | 3), frame, left, batch] => {
-                let left = self.renaming.counting(left, &mut self.changed.left);
+                let left = self.renamed(left, |changed| &mut changed.left);
                 self.put(&format!("{outcome} {frame} {left} {batch}"));
             }
             [0 | 1 | 4 | 109..=112, _, 0, 0] => self.put(line),
@@ -203,7 +220,7 @@ impl Renamer<'_> {
 
     fn written_page(&mut self) -> Option<()> {
         let [page] = numbers(self.lines.next()?)?;
-        let page = self.renaming.counting(page, &mut self.changed.written);
+        let page = self.renamed(page, |changed| &mut changed.written);
         self.put(&page.to_string());
         Some(())
     }
@@ -219,15 +236,27 @@ impl Renamer<'_> {
         let [_dirty, _pins, _count, _last] = numbers(state)?;
         any_numbers(access)?;
         any_numbers(write)?;
-        let page = self.renaming.counting(page, &mut self.changed.resident);
+        let page = self.renamed(page, |changed| &mut changed.resident);
         self.put(&format!("{page} {rest}"));
         Some(())
     }
 
-    /// Keeps a line of this name and so many numbers, and gives the numbers.
+    /// The new number of a page, counted where it is another one.
+    fn renamed(&mut self, page: u32, place: fn(&mut Changed) -> &mut u64) -> u32 {
+        let number = self.renaming.of(page);
+        if number != page {
+            *place(self.changed) += 1;
+            self.changed.were_zero += u64::from(page == 0);
+            self.changed.became_zero += u64::from(number == 0);
+        }
+        number
+    }
+
+    /// Keeps a line of this name and, behind a space, so many numbers; gives the
+    /// numbers.
     fn keep<const N: usize>(&mut self, name: &str) -> Option<[u32; N]> {
         let line = self.lines.next()?;
-        let numbers = numbers(line.strip_prefix(name)?)?;
+        let numbers = numbers(line.strip_prefix(name)?.strip_prefix(' ')?)?;
         self.put(line);
         Some(numbers)
     }

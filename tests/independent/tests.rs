@@ -5,7 +5,7 @@
 use crate::renaming::*;
 use crate::replay::*;
 use crate::traces::{self, encode, put, Random};
-use crate::{first_difference, list_series, list_trace, renamed_alike, Made};
+use crate::{first_difference, list_series, list_trace, never_changed, renamed_alike, Made};
 use std::collections::{BTreeMap, BTreeSet};
 
 const BOTH: [Order; 2] = [Order::HighFirst, Order::LowFirst];
@@ -259,8 +259,6 @@ fn batch_orders() {
         let settings = Settings {
             batch: 3,
             cap: 3,
-            sample: 16,
-            epoch: 100,
             ..settings(rule, 3)
         };
         let mut records = vec![(9, W), (8, W), (7, W)];
@@ -275,8 +273,32 @@ fn batch_orders() {
     assert_eq!(written(Rule::Clock, &[(9, R)]), [8, 7, 9]);
     // The counts 1 3 1 become 0 2 0, frame 0 leaves, the hand is at frame 1.
     assert_eq!(written(Rule::Clock, &[(8, R), (8, R)]), [9, 7, 8]);
-    // Values that are equal, by frame and not by page.
-    assert_eq!(written(Rule::Watt, &[]), [9, 8, 7]);
+}
+
+#[test]
+fn ties_are_not_broken_by_page() {
+    let evicted = |rule: Rule, [a, b, c, d]: [u32; 4]| {
+        let settings = Settings {
+            batch: 4,
+            cap: 2,
+            sample: 16,
+            epoch: 100,
+            ..settings(rule, 4)
+        };
+        let records = [(a, W), (b, W), (c, W), (d, W), (a, R), (9, R)];
+        let (rows, written, ..) = run(settings, &records);
+        (rows[5], written)
+    };
+    for pages in [[1, 2, 3, 4], [4, 3, 2, 1]] {
+        let [a, b, c, d] = pages;
+        // Every value is the same, and the frame decides.
+        assert_eq!(evicted(Rule::Watt, pages), ([3, 0, a, 4], vec![a, b, c, d]));
+        // The counts 2 1 1 1 become 0 0 0 0, and the distance from frame 2 decides.
+        assert_eq!(
+            evicted(Rule::Clock, pages),
+            ([3, 1, b, 4], vec![b, c, d, a])
+        );
+    }
 }
 
 // ------------------------------------------------------------- damaged traces
@@ -489,8 +511,16 @@ fn renamed_series_keep_the_rest() {
     assert_eq!((items.len(), after), (5, &rest[..]));
 }
 
-/// Every outcome, of the refusals one, under LRU with two frames and batches of
-/// two. Page 0 leaves dirty and, later, clean.
+/// LRU with two frames and batches of two.
+fn by_twos() -> Settings {
+    Settings {
+        batch: 2,
+        ..settings(Rule::Lru, 2)
+    }
+}
+
+/// Every outcome, of the refusals one, by twos. Page 0 leaves dirty and, later,
+/// clean.
 const EVERY_OUTCOME: [(u32, u32); 10] = [
     (0, W),
     (5, R),
@@ -565,13 +595,9 @@ fn every_renaming() -> Renaming {
 
 #[test]
 fn listings_are_renamed() {
-    let two = Settings {
-        batch: 2,
-        ..settings(Rule::Lru, 2)
-    };
     let renaming = every_renaming();
     for order in BOTH {
-        let bytes = encode(&two, order, &EVERY_OUTCOME);
+        let bytes = encode(&by_twos(), order, &EVERY_OUTCOME);
         assert_eq!(listed(&bytes), EVERY_LISTED);
         let renamed = rename_trace(&check(&bytes).unwrap(), order, &renaming);
         assert_eq!(listed(&renamed), EVERY_RENAMED);
@@ -581,9 +607,12 @@ fn listings_are_renamed() {
     let renamed = rename_listing(&series(EVERY_LISTED), &renaming, &mut changed);
     assert_eq!(renamed, Ok(series(EVERY_RENAMED)));
     let expected = Changed {
+        listings: 1,
         left: 6,
         written: 4,
         resident: 4,
+        were_zero: 6,
+        became_zero: 6,
     };
     assert_eq!(changed, expected);
 }
@@ -594,6 +623,7 @@ fn other_lines_are_no_listing() {
         ("rows 10", "rows 9", 11),
         ("rows 10", "rows 11", 12),
         ("rows 10", "10", 1),
+        ("rows 10", "rows10", 1),
         ("3 0 0 2", "3 0 0", 5),
         ("110 0 0 0", "110 0 5 0", 9),
         ("110 0 0 0", "5 0 0 0", 9),
@@ -607,6 +637,7 @@ fn other_lines_are_no_listing() {
         ("refused 1\n", "", 24),
         ("refused 1\n", "refused 1\n5\n", 25),
         ("refused 1\n", "refused 1\nanew 5\n", 25),
+        ("refused 1\n", "refused 1\nanew \n", 25),
     ];
     for (from, to, line) in changes {
         let other = EVERY_LISTED.replacen(from, to, 1);
@@ -619,18 +650,40 @@ fn other_lines_are_no_listing() {
     }
 }
 
+/// The first line in which the listing of a trace, renamed one way, differs from
+/// that of the trace renamed another way; its number and both forms.
+fn difference(bytes: &[u8], listing: &Renaming, trace: &Renaming) -> Option<(usize, [String; 2])> {
+    let renamed = rename_listing(&listed(bytes), listing, &mut Changed::default()).unwrap();
+    let bytes = rename_trace(&check(bytes).unwrap(), Order::LowFirst, trace);
+    let (line, ours, theirs) = first_difference(renamed.as_bytes(), listed(&bytes).as_bytes())?;
+    Some((line, [ours, theirs]))
+}
+
+fn quoted(forms: [&str; 2]) -> [String; 2] {
+    forms.map(|form| format!("{form:?}"))
+}
+
 #[test]
 fn pages_not_renamed_are_found() {
-    let kept = [
-        ("3 0 7 2\n", "3 0 0 2\n", 5),
-        ("2 1 0 0\n", "2 1 5 0\n", 7),
-        ("written 2\n7\n", "written 2\n0\n", 13),
-        ("\n4294967295 0", "\n6 0", 17),
+    // Page 1 leaves clean, and page 2 dirty; page 3 is written with it and stays.
+    let bytes = encode(
+        &by_twos(),
+        Order::LowFirst,
+        &[(1, R), (2, W), (3, W), (4, R)],
+    );
+    let all = Renaming(BTreeMap::from([(1, 5), (2, 6), (3, 7), (4, 8)]));
+    assert_eq!(difference(&bytes, &all, &all), None);
+    let found = [
+        (1, 4, ["2 0 1 0\n", "2 0 5 0\n"]),
+        (2, 5, ["3 1 2 2\n", "3 1 6 2\n"]),
+        (3, 8, ["3\n", "7\n"]),
+        (4, 12, ["4 0 0 1 3 : 3 :\n", "8 0 0 1 3 : 3 :\n"]),
     ];
-    for (new, old, line) in kept {
-        let wrong = EVERY_RENAMED.replacen(new, old, 1);
-        let difference = first_difference(EVERY_RENAMED.as_bytes(), wrong.as_bytes());
-        assert_eq!(difference.unwrap().0, line);
+    for (page, line, forms) in found {
+        let mut all_but_one = all.clone();
+        all_but_one.0.insert(page, page);
+        let expected = Some((line, quoted(forms)));
+        assert_eq!(difference(&bytes, &all_but_one, &all), expected);
     }
 }
 
@@ -639,24 +692,41 @@ fn merged_pages_are_found() {
     // Two misses become a miss and a hit, which no renaming one-to-one does.
     let merging = Renaming(BTreeMap::from([(1, 3), (2, 3)]));
     let bytes = encode(&settings(Rule::Lru, 1), Order::LowFirst, &reads(&[1, 2]));
-    let merged = rename_trace(&check(&bytes).unwrap(), Order::LowFirst, &merging);
-    let renamed = rename_listing(&listed(&bytes), &merging, &mut Changed::default());
-    let difference = first_difference(renamed.unwrap().as_bytes(), listed(&merged).as_bytes());
-    let forms = ["2 0 3 0\n", "0 0 0 0\n"].map(|line| format!("{line:?}"));
-    assert_eq!(difference, Some((3, forms[0].clone(), forms[1].clone())));
+    let expected = Some((3, quoted(["2 0 3 0\n", "0 0 0 0\n"])));
+    assert_eq!(difference(&bytes, &merging, &merging), expected);
+}
+
+#[test]
+fn accepted_traces_alone_are_renamed() {
+    let accepted = encode(&settings(Rule::Lru, 1), Order::LowFirst, &reads(&[1]));
+    let refused = vec![7; 48];
+    let result = |bytes: &[u8], listing: &str| {
+        let printed = [listing.to_string(), String::new()];
+        renamed_alike(Made::Trace, 0, bytes, &printed, &mut BTreeMap::new())
+    };
+    assert_eq!(result(&refused, &listed(&refused)), Ok(None));
+    let error = result(&refused, &listed(&accepted)).unwrap_err();
+    assert_eq!(error, "trace accepted, but not renamed");
+    let error = result(&accepted, &listed(&refused)).unwrap_err();
+    assert_eq!(error, "trace refused, but renamed");
 }
 
 #[test]
 fn renaming_changes_nothing_else() {
-    let mut changed = Changed::default();
-    let seeds = (0..200).map(|seed| (Made::Trace, seed));
-    for (made, seed) in seeds.chain([(Made::Series, 0)]) {
+    let mut changes = BTreeMap::new();
+    // Other seeds than those that are compared with the programs.
+    let seeds = (5_000..5_200).map(|seed| (Made::Trace, seed));
+    for (made, seed) in seeds.chain([(Made::Series, 5_000)]) {
         let bytes = made.from_seed(seed);
         let printed = made.printed(&bytes, &mut |_| {});
-        let result = renamed_alike(made, seed, &bytes, &printed, &mut changed);
+        let result = renamed_alike(made, seed, &bytes, &printed, &mut changes);
         assert_eq!(result.err(), None, "seed {seed}");
     }
-    assert!(changed.left > 0 && changed.written > 0 && changed.resident > 0);
+    assert_eq!(never_changed(&changes), [""; 0]);
+    // What one rule never had, no other makes up for.
+    changes.get_mut("policy watt").unwrap().left = 0;
+    let never = ["policy watt renamed: pages that left"];
+    assert_eq!(never_changed(&changes), never);
 }
 
 // -------------------------------------------------------- the generated traces
