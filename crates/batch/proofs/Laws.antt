@@ -14,7 +14,7 @@ use Rattle.worth.proofs.Order.{Proper, less-asym, less-weak}
 use Rattle.settings.proofs.Laws.{ranges}
 use Rattle.pool.specs.declared.Frame.{Frame}
 use Rattle.pool.specs.declared.Pool.{Pool}
-use Rattle.pool.specs.Pool.{frameAt}
+use Rattle.pool.specs.Pool.{frameAt, withFrames}
 use Rattle.pool.proofs.Sound.{Sound}
 use Rattle.pool.proofs.Sizes.{Sized}
 use Rattle.pool.proofs.Quiet.{Alike, Quiet, sound-quiet}
@@ -22,7 +22,7 @@ use Rattle.victim.specs.Watt.{valueAt}
 use Rattle.victim.proofs.Rules.{by-rule}
 use Rattle.victim.proofs.watt.Values.{value-positive}
 use Rattle.batch.specs.Taken.{othersTo}
-use Rattle.batch.specs.Batch.{distance, batchOrder, waits, batchOf, cleanFrame, cleaned, withFrames}
+use Rattle.batch.specs.Batch.{distance, batchOrder, waits, batchOf, cleanFrame, cleaned}
 use Rattle.batch.specs.Ranks.{rankOf}
 use Rattle.batch.proofs.Ranks.{rank-order}
 use Rattle.batch.proofs.Taken.{Chosen, chosen, Enough, enough}

@@ -2,7 +2,7 @@
 use mathlib.Core.Path.{_≡_, refl, ap, _∙_}
 use mathlib.Core.Bool.{Bool, _&&_, not}
 use mathlib.Core.List.{List, [], _∷_, map}
-use Prim.Native.Nat.{ℕ, zero, suc, _-_}
+use Prim.Native.Nat.{ℕ, _-_}
 use lib.ListN.{set}
 use lib.Dec.{eqb}
 use Rattle.search.specs.Search.{pick}
@@ -11,9 +11,9 @@ use Rattle.pool.specs.declared.Pool.{Pool}
 use Rattle.pool.specs.Pool.{frameAt}
 use Rattle.victim.specs.Lru.{older}
 use Rattle.victim.specs.Watt.{lessValue}
-use Rattle.victim.specs.Rules.{byRule}
 use Rattle.victim.proofs.Owed.{repaged, repagedPool, EmptyStays, frame-repaged, map-set}
 use Rattle.victim.proofs.watt.Laws.{value-repaged}
+use Rattle.victim.proofs.Rules.{rule-each}
 use Rattle.batch.specs.Taken.{othersTo}
 use Rattle.batch.specs.Batch.{sooner, batchOrder, waits, batchOf, cleanFrame, cleaned}
 use Rattle.batch.proofs.Whole.{others-same}
@@ -29,12 +29,11 @@ module _ (new : Bool → ℕ → ℕ) (stays : EmptyStays new) where
     -- the order of each rule
     order-repaged : (i j : ℕ) → batchOrder q i j ≡ batchOrder p i j
     unfolding batchOrder
-    order-repaged i j = go (p .settings .rule)
-      where
-        go : (r : ℕ) → byRule r (older (q .frames) i j) (sooner q i j) (lessValue q i j) ≡ byRule r (older fs i j) (sooner p i j) (lessValue p i j)
-        go zero = rw (frame-repaged new stays fs i, frame-repaged new stays fs j)
-        go (suc zero) = rw (frame-repaged new stays fs i, frame-repaged new stays fs j)
-        go (suc (suc r)) = rw (value-repaged new stays p i, value-repaged new stays p j)
+    order-repaged i j =
+        let a = frame-repaged new stays fs i in
+        let b = frame-repaged new stays fs j in
+        rule-each (λ (before : Bool). before) (p .settings .rule) (older fs i j) (sooner p i j) (lessValue p i j) (older (q .frames) i j) (sooner q i j) (lessValue q i j)
+        (rw (a, b)) (rw (a, b)) (rw (value-repaged new stays p i, value-repaged new stays p j))
 
     waits-repaged : (v i : ℕ) → waits q v i ≡ waits p v i
     waits-repaged v i = ap (λ (fr : Frame). (fr .dirty && eqb (fr .pins) 0) && not (eqb v i)) (frame-repaged new stays fs i)

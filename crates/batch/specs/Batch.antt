@@ -46,10 +46,6 @@ unfoldable pub cleaned : List Frame → List ℕ → List Frame
 cleaned fs [] = fs
 cleaned fs (i ∷ is) = cleaned (set fs i (cleanFrame (frameAt fs i))) is
 
--- the pool with other frames
-abbrev pub withFrames : Pool → List Frame → Pool
-withFrames p fs = record { settings = p .settings; k = p .k; hand = p .hand; sampler = p .sampler; frames = fs; access = p .access; write = p .write }
-
 -- the pages written, in order
 unfoldable pub pagesOf : List Frame → List ℕ → List ℕ
 pagesOf fs is = map (λ i. frameAt fs i .page) is

@@ -10,18 +10,19 @@ use borrow.Author.Tests.{le-leb, lt-leb}
 use Rattle.search.specs.declared.Found.{Found}
 use Rattle.search.specs.declared.Found.the-variants.{At, Nothing}
 use Rattle.search.specs.Search.{never}
-use Rattle.search.proofs.Least.{least-none, least-none-of}
-use Rattle.search.proofs.Every.{pick-ind, undenied}
+use Rattle.search.proofs.Least.{least-none-of}
+use Rattle.search.proofs.Every.{pick-ind}
 use Rattle.refusal.specs.Refusals.{badField, noReferenceLeft, noFrame, notPinned, pinsFull}
 use Rattle.pool.specs.declared.Pool.{Pool}
-use Rattle.pool.specs.Pool.{referenceLimit, frameAt}
+use Rattle.pool.specs.Pool.{referenceLimit, frameAt, withFrames}
 use Rattle.reference.specs.Search.{findPage, unused, lowestUnused}
 use Rattle.reference.specs.Reference.{referred, hitAt, fetchedAt, pinnedAt}
+use Rattle.reference.proofs.Keeps.{none-unused}
 use Rattle.victim.specs.Choice.{leftBy}
 use Rattle.victim.specs.Choice as choice
 use Rattle.victim.specs.Rules.{choiceOf}
 use Rattle.victim.proofs.Rules.{choice-owes}
-use Rattle.batch.specs.Batch.{batchOf, cleaned, withFrames}
+use Rattle.batch.specs.Batch.{batchOf, cleaned}
 use Rattle.tally.specs.Rows.{row, hit, missClean, missDirty, refusedBy}
 use Rattle.effect.specs.Record.{Did, did, pinLimit, pinsAt, refusal, pinnedWhere, filled, leavingOf, missOf, referenceOf, unpinOf, recordOf}
 use Rattle.effect.proofs.Ways.{at-limit, resident, absent, free, full, victim, no-victim, pins-full, pins-free, unpin-absent, unpin-none, unpin-one}
@@ -56,9 +57,7 @@ abbrev pub EveryPinned : Pool → Type 0
 EveryPinned p = (i : ℕ) → i < p .settings .frames → (frameAt (p .frames) i .used ≡ true) × (choice.unpinned (p .frames) i ≡ false)
 
 every-pinned : (p : Pool) → lowestUnused p ≡ Nothing → choiceOf p .found ≡ Nothing → EveryPinned p
-unfolding lowestUnused
-every-pinned p none e i l =
-    (undenied (frameAt (p .frames) i .used) (least-none (unused (p .frames)) never (p .settings .frames) i none l), choice-owes .none p .0 e i l)
+every-pinned p none e i l = (none-unused p none i l, choice-owes .none p .0 e i l)
 
 module _ (p : Pool) (page : ℕ) (write pin : Bool) where
   -- a missed page: accepted, or refused 10, and that exactly where every frame below f is in use and pinned

@@ -15,7 +15,7 @@ use Rattle.search.proofs.Every.{pick-ind}
 use Rattle.settings.specs.declared.Settings.{Settings}
 use Rattle.settings.proofs.Laws.{ranges}
 use Rattle.pool.specs.declared.Pool.{Pool}
-use Rattle.pool.specs.Pool.{referenceLimit, frameAt}
+use Rattle.pool.specs.Pool.{referenceLimit, frameAt, withFrames}
 use Rattle.pool.proofs.Sound.{Sound, made}
 use Rattle.pool.proofs.Sizes.{Sized}
 use Rattle.pool.proofs.Quiet.{Quiet}
@@ -26,7 +26,7 @@ use Rattle.reference.proofs.Referred.{hit-used, fetch-used, pin-sized, unpin-si
 use Rattle.victim.specs.Choice.{leftBy}
 use Rattle.victim.specs.Rules.{choiceOf}
 use Rattle.victim.proofs.Rules.{choice-owes, choice-sized}
-use Rattle.batch.specs.Batch.{batchOf, cleaned, withFrames}
+use Rattle.batch.specs.Batch.{batchOf, cleaned}
 use Rattle.batch.proofs.Cleaned.{pages-length}
 use Rattle.batch.proofs.Laws.{batch-length, cleaned-quiet, batch-sound, batch-sized}
 use Rattle.tally.specs.Rows.{row, hit, missUnused, unpinned}

@@ -12,7 +12,7 @@ use Rattle.search.specs.declared.Found.the-variants.{At, Nothing}
 use Rattle.refusal.specs.Refusals.{badField, noReferenceLeft, noFrame, notPinned, pinsFull}
 use Rattle.settings.proofs.Laws.{ranges}
 use Rattle.pool.specs.declared.Pool.{Pool}
-use Rattle.pool.specs.Pool.{referenceLimit, frameAt}
+use Rattle.pool.specs.Pool.{referenceLimit, frameAt, withFrames}
 use Rattle.pool.specs.Sound.{soundPool}
 use Rattle.pool.proofs.Sound.{Sound, told, made}
 use Rattle.pool.proofs.Sizes.{Sized}
@@ -21,7 +21,7 @@ use Rattle.reference.specs.Reference.{hitAt, unpinnedAt}
 use Rattle.victim.specs.Choice.{leftBy}
 use Rattle.victim.specs.Rules.{choiceOf}
 use Rattle.victim.proofs.Rules.{choice-owes, choice-sized}
-use Rattle.batch.specs.Batch.{batchOf, cleaned, withFrames}
+use Rattle.batch.specs.Batch.{batchOf, cleaned}
 use Rattle.batch.proofs.Laws.{batch-sized}
 use Rattle.tally.specs.declared.Row.{Row}
 use Rattle.tally.specs.Rows.{row, hit, missUnused, missClean, unpinned, refusedRow}

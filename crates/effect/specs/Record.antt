@@ -8,13 +8,13 @@ use Rattle.search.specs.Search.{pick, onFound, countBelow}
 use Rattle.refusal.specs.Refusals.{badField, noReferenceLeft, noFrame, notPinned, pinsFull}
 use Rattle.pool.specs.declared.Frame.{Frame}
 use Rattle.pool.specs.declared.Pool.{Pool}
-use Rattle.pool.specs.Pool.{referenceLimit, frameRoom, frameAt}
+use Rattle.pool.specs.Pool.{referenceLimit, frameRoom, frameAt, withFrames}
 use Rattle.reference.specs.Search.{findPage, lowestUnused}
 use Rattle.reference.specs.Reference.{hitAt, fetchedAt, pinnedAt, unpinnedAt}
 use Rattle.victim.specs.declared.Choice.{Choice}
 use Rattle.victim.specs.Choice.{leftBy}
 use Rattle.victim.specs.Rules.{choiceOf}
-use Rattle.batch.specs.Batch.{batchOf, cleaned, pagesOf, withFrames}
+use Rattle.batch.specs.Batch.{batchOf, cleaned, pagesOf}
 use Rattle.tally.specs.declared.Row.{Row}
 use Rattle.tally.specs.Rows.{row, hit, missUnused, missClean, missDirty, unpinned, refusedRow}
 

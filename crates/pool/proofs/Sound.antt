@@ -1,5 +1,5 @@
 -- Soundness as facts: what a sound pool tells of each frame, and that those facts make it sound.
-use mathlib.Core.Path.{_≡_, refl, ap, sym}
+use mathlib.Core.Path.{_≡_, refl, ap, sym, _∙_}
 use mathlib.Core.Bool.{Bool, true, false, _&&_, _||_, not, true≢false, and-eq-true-iff}
 use mathlib.Core.List.{List}
 use Prim.Native.Nat.{ℕ, zero, suc, _+_, _-_, _*_, _≤_, _<_}
@@ -56,6 +56,14 @@ pub record Sound (p : Pool) : Type 0 where
   pub hand : p .hand < p .settings .frames
   pub few : p .k ≤ referenceLimit
   pub frame : (i : ℕ) → i < 128 → SoundFrame p i
+
+-- what is dirty is in use
+pub dirty-used : (p : Pool) → Sound p → (i : ℕ) → i < 128 → frameAt (p .frames) i .dirty ≡ true → frameAt (p .frames) i .used ≡ true
+dirty-used p s i l d = go (frameAt (p .frames) i .used) refl
+  where
+    go : (u : Bool) → frameAt (p .frames) i .used ≡ u → u ≡ true
+    go true e = refl
+    go false e = sym (ap (λ (fr : Frame). fr .dirty) (s .frame i l .zero e)) ∙ d
 
 -- two numbers apart, where both are asked for
 pub apart : (u : Bool) (x y : ℕ) → not (u && eqb x y) ≡ true → u ≡ true → x ≡ y → ⊥

@@ -59,6 +59,10 @@ emptyPool s = record {
 abbrev pub oneFrame : Settings
 oneFrame = record { rule = 0; frames = 1; batch = 1; cap = 1; sample = 1; weight = 0; epoch = 1; seed = 0 }
 
+-- the pool with other frames
+abbrev pub withFrames : Pool → List Frame → Pool
+withFrames p fs = record { settings = p .settings; k = p .k; hand = p .hand; sampler = p .sampler; frames = fs; access = p .access; write = p .write }
+
 -- a refusal or 0, and a pool
 abbrev pub opened : ℕ → Pool → Opened
 opened r p = record { refusal = r; pool = p }

@@ -78,6 +78,11 @@ module _ (p : Pool) (s : Sound p) where
         lasts = λ j m h k _ _ v. s .frame j k .lasts v m h;
       }
 
+-- with no unused frame below f, each is in use
+pub none-unused : (p : Pool) → lowestUnused p ≡ Nothing → (i : ℕ) → i < p .settings .frames → frameAt (p .frames) i .used ≡ true
+unfolding lowestUnused
+none-unused p h i l = undenied (frameAt (p .frames) i .used) (least-none (unused (p .frames)) never (p .settings .frames) i h l)
+
 -- a change of one frame that touches no page, last step or log
 module _ (p : Pool) (s : Sound p) (z : Sized p) (i : ℕ) (l : i < 128) (g : Frame) (a : Alike (p .settings .cap) (frameAt (p .frames) i) g) where
   pub frame-quiet : Quiet p (withFrame p i g)
@@ -236,15 +241,11 @@ module _ (p : Pool) (s : Sound p) (z : Sized p) (page : ℕ) (miss : findPage (p
     unused-sized = fetch-sized p s z i page within under (λ j. find-absent p s page j miss) write room
 
   module _ (i : ℕ) (write : Bool) (h : lowestUnused p ≡ Nothing) (l : i < p .settings .frames) where
-    all-used : (j : ℕ) → j < i → frameAt (p .frames) j .used ≡ true
-    unfolding lowestUnused
-    all-used j k = undenied (frameAt (p .frames) j .used) (least-none (unused (p .frames)) never (p .settings .frames) j h (omega arith))
-
     pub victim-sound : Sound (fetchedAt p i page write)
-    victim-sound = fetch-sound p s z i page l all-used (λ j. find-absent p s page j miss) write room
+    victim-sound = fetch-sound p s z i page l (λ j k. none-unused p h j (omega arith)) (λ j. find-absent p s page j miss) write room
 
     pub victim-sized : Sized (fetchedAt p i page write)
-    victim-sized = fetch-sized p s z i page l all-used (λ j. find-absent p s page j miss) write room
+    victim-sized = fetch-sized p s z i page l (λ j k. none-unused p h j (omega arith)) (λ j. find-absent p s page j miss) write room
 
 -- a quiet change moves no page
 module _ (p q : Pool) (s : Sound p) (c : Quiet p q) where

@@ -4,22 +4,22 @@ use mathlib.Core.Bool.{Bool, _&&_}
 use mathlib.Core.List.{List}
 use Prim.Native.Nat.{ℕ, zero, suc, _+_, _*_}
 use lib.ListN.{length, length-map}
-use lib.Seq.{sets}
 use lib.Dec.{leb}
 use Rattle.word.specs.declared.Order.{Order}
 use Rattle.settings.specs.Settings.{sameSettings}
 use Rattle.trace.specs.Layout.{Trace, writesIn}
 use Rattle.trace.specs.Check.{refusalOf, traceOf}
+use Rattle.trace.proofs.Accept.{accepted}
 use Rattle.pool.specs.declared.Pool.{Pool}
 use Rattle.tally.specs.declared.Tally.{Tally}
 use Rattle.tally.specs.Tally.{tallyWithin}
 use Rattle.effect.specs.Record.{dirtyIn}
 use Rattle.replay.specs.declared.Ended.{Ended}
-use Rattle.replay.specs.Replay.{Played, replayOf, numbersOf}
-use Rattle.replay.specs.Calls.{mayBegin, unlessRefused, countsRefusal, roomFor, replayRefusal, endedOf, countsOf}
+use Rattle.replay.specs.Replay.{Played, replayOf}
+use Rattle.replay.specs.Calls.{mayBegin, countsRefusal, roomFor, replayRefusal, endedOf, countsOf, ReplayInto}
 use Rattle.rename.specs.Renamed.{renamedPool, renamedBytes, renamedPlayed, renamedEnded}
 use Rattle.rename.specs.Sameness.{pagesTogether, Renames, Given, OnlySameness}
-use Rattle.rename.specs.Calls.{Call, Replays, CallsAlike, ReplayDemand, CountsDemand}
+use Rattle.rename.specs.Calls.{ReplayRenamed, ReplayDemand, CountsDemand}
 use Rattle.rename.proofs.Sound.{dirty-renamed}
 use Rattle.rename.proofs.Sameness.{only-sameness}
 
@@ -28,10 +28,6 @@ ended-renamed : (ρ : ℕ → ℕ) (n : ℕ) (p : Pool) (t : Tally) (r : Played)
 ended-renamed ρ zero p t r = refl
 ended-renamed ρ (suc n) p t r = refl
 
-ended-refusal : (n : ℕ) (p : Pool) (t : Tally) (r : Played) → endedOf n p t r .refusal ≡ n
-ended-refusal zero p t r = refl
-ended-refusal (suc n) p t r = refl
-
 module _ (ρ : ℕ → ℕ) (p : Pool) (t : Tally) (s : List ℕ) (given : Given p s) (names : Renames ρ (pagesTogether p (traceOf s))) (o : Order) where
   abbrev renamed : List ℕ
   renamed = renamedBytes ρ o s
@@ -39,19 +35,19 @@ module _ (ρ : ℕ → ℕ) (p : Pool) (t : Tally) (s : List ℕ) (given : Given
   abbrev played : Played
   played = replayOf p t (traceOf s)
 
-  theorem : OnlySameness ρ p t s
-  theorem = only-sameness ρ p t s given names
+  renames : OnlySameness ρ p t s
+  renames = only-sameness ρ p t s given names
 
   -- the same refusals
   begins-renamed : mayBegin (renamedPool ρ p) t ≡ mayBegin p t
   unfolding mayBegin
-  begins-renamed = ap (λ (b : Bool). b && tallyWithin t) (theorem .given o .sound ∙ sym (given .sound))
+  begins-renamed = ap (λ (b : Bool). b && tallyWithin t) (renames .sound ∙ sym (given .sound))
 
   refusal-renamed : refusalOf renamed ≡ refusalOf s
-  refusal-renamed = theorem .given o .accepted ∙ sym (given .accepted)
+  refusal-renamed = accepted renamed _ (renames .accepted o) .0 ∙ sym (given .accepted)
 
   settings-renamed : sameSettings (traceOf renamed .settings) (p .settings) ≡ sameSettings (traceOf s .settings) (p .settings)
-  settings-renamed = ap (λ (u : Trace). sameSettings (u .settings) (p .settings)) (theorem .read o)
+  settings-renamed = ap (λ (u : Trace). sameSettings (u .settings) (p .settings)) (renames .read o)
 
   counts-refused : countsRefusal (renamedPool ρ p) t renamed ≡ countsRefusal p t s
   unfolding countsRefusal
@@ -59,7 +55,7 @@ module _ (ρ : ℕ → ℕ) (p : Pool) (t : Tally) (s : List ℕ) (given : Given
 
   room-renamed : (rows places : ℕ) → roomFor (renamedPool ρ p) (traceOf renamed) rows places ≡ roomFor p (traceOf s) rows places
   room-renamed rows places =
-      ap (λ (u : Trace). roomFor (renamedPool ρ p) u rows places) (theorem .read o)
+      ap (λ (u : Trace). roomFor (renamedPool ρ p) u rows places) (renames .read o)
       ∙ ap (λ (n : ℕ). leb (4 * n) rows && leb (writesIn (traceOf s .kinds) + dirtyIn (renamedPool ρ p .frames)) places) (length-map (traceOf s .pages) ρ)
       ∙ ap (λ (n : ℕ). leb (4 * length (traceOf s .pages)) rows && leb (writesIn (traceOf s .kinds) + n) places) (dirty-renamed ρ (p .frames))
 
@@ -69,34 +65,20 @@ module _ (ρ : ℕ → ℕ) (p : Pool) (t : Tally) (s : List ℕ) (given : Given
 
   counts-renamed : countsOf (renamedPool ρ p) t renamed ≡ renamedEnded ρ (countsOf p t s)
   unfolding countsOf
-  counts-renamed = rw (counts-refused, theorem .replayed o) (ended-renamed ρ (countsRefusal p t s) p t played)
+  counts-renamed = rw (counts-refused, renames .replayed o) (ended-renamed ρ (countsRefusal p t s) p t played)
 
-  -- two calls with the same lists
-  module _ (c d : Call) (first : Replays c p t s) (second : Replays d (renamedPool ρ p) t renamed) (rows : d .rows ≡ c .rows) (written : d .written ≡ c .written) where
-    abbrev n : ℕ
-    n = replayRefusal p t s (length (c .rows)) (length (c .written))
+  replays-renamed : (rows written : List ℕ) (r : Ended) (rows′ written′ : List ℕ) → ReplayInto (renamedPool ρ p) t renamed rows written r rows′ written′ → ReplayRenamed ρ p t s rows written r rows′ written′
+  replays-renamed rows written r rows′ written′ x =
+      let e = replay-refused (length rows) (length written) in
+      let h = renames .replayed o in
+      let n = replayRefusal p t s (length rows) (length written) in record {
+        answers = x .answers ∙ rw (e, h) (ended-renamed ρ n p t played);
+        rows-hold = x .rows-hold ∙ rw (e, h);
+        written-hold = x .written-hold ∙ rw (e, h);
+      }
 
-    refused : replayRefusal (renamedPool ρ p) t renamed (length (d .rows)) (length (d .written)) ≡ n
-    refused = rw (rows, written) (replay-refused (length (c .rows)) (length (c .written)))
-
-    refusal-is : n ≡ c .ended .refusal
-    refusal-is = sym (ap (λ (e : Ended). e .refusal) (first .answers) ∙ ended-refusal n p t played)
-
-    -- what a list of the second holds
-    holds : (part : Played → List ℕ) (lent lent′ : List ℕ) → lent′ ≡ lent → sets lent′ 0 (unlessRefused (replayRefusal (renamedPool ρ p) t renamed (length (d .rows)) (length (d .written))) (part (replayOf (renamedPool ρ p) t (traceOf renamed)))) ≡ sets lent 0 (unlessRefused (c .ended .refusal) (part (renamedPlayed ρ played)))
-    holds part lent lent′ e = rw (e, refused, theorem .replayed o, refusal-is)
-
-    alike : CallsAlike ρ p t s c d
-    alike = record {
-      ended = second .answers ∙ rw (refused, theorem .replayed o) (ended-renamed ρ n p t played) ∙ sym (ap (renamedEnded ρ) (first .answers));
-      rows = first .rows-hold ∙ ap (λ (m : ℕ). sets (c .rows) 0 (unlessRefused m (numbersOf (played .rows)))) refusal-is;
-      rows-renamed = second .rows-hold ∙ holds (λ r. numbersOf (r .rows)) (c .rows) (d .rows) rows;
-      written = first .written-hold ∙ ap (λ (m : ℕ). sets (c .written) 0 (unlessRefused m (played .written))) refusal-is;
-      written-renamed = second .written-hold ∙ holds (λ r. r .written) (c .written) (d .written) written;
-    }
-
-pub calls-alike : ReplayDemand
-calls-alike ρ p t s given names o c d first second rows written = alike ρ p t s given names o c d first second rows written
+pub replay-alike : ReplayDemand
+replay-alike = replays-renamed
 
 pub counts-alike : CountsDemand
-counts-alike ρ p t s given names o = counts-renamed ρ p t s given names o
+counts-alike = counts-renamed

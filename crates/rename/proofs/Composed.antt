@@ -1,29 +1,31 @@
 -- Renaming by ρ and then by σ is renaming once by both.
 use mathlib.Core.Path.{_≡_, refl, ap, subst, _∙_}
 use mathlib.Core.Bool.{Bool, true, false}
-use mathlib.Core.List.{List, [], _∷_, map, map-map}
+use mathlib.Core.List.{List, map, map-map, map-congr-left}
 use Prim.Native.Nat.{ℕ}
 use Rattle.search.specs.Search.{pick}
+use Rattle.search.proofs.Among.{among-map}
 use Rattle.word.specs.declared.Order.{Order}
 use Rattle.trace.specs.Layout.{Trace, traceFrom}
+use Rattle.trace.specs.Encode.{encode}
+use Rattle.trace.specs.Check.{traceOf}
 use Rattle.pool.specs.declared.Pool.{Pool}
-use Rattle.pool.specs.Pool.{withPage}
-use Rattle.batch.specs.Batch.{withFrames}
+use Rattle.pool.specs.Pool.{withPage, withFrames}
 use Rattle.tally.specs.declared.Row.{Row}
 use Rattle.tally.specs.Rows.{row, isEviction}
 use Rattle.replay.specs.Replay.{Played}
-use Rattle.rename.specs.Renamed.{renamedPages, renamedFrame, renamedPool, renamedTrace, renamedRow, renamedPlayed}
-use Rattle.rename.specs.Sameness.{pagesTogether, Renames}
+use Rattle.rename.specs.Renamed.{renamedPages, renamedFrame, renamedPool, renamedTrace, renamedBytes, renamedRow, renamedPlayed}
+use Rattle.rename.specs.Sameness.{pagesTogether, Renames, Given}
 use Rattle.rename.specs.Composed.{inTurn, InTurn}
-use Rattle.rename.proofs.Pages.{renamed-in, together-renamed}
+use Rattle.rename.proofs.Pages.{together-renamed}
+use Rattle.rename.proofs.Sameness.{read-back}
 
 -- two changes of each element are one
 each-twice : {A : Type 0} (f g h : A → A) → ((a : A) → g (f a) ≡ h a) → (l : List A) → map g (map f l) ≡ map h l
-each-twice f g h same [] = refl
-each-twice {A = A} f g h same (a ∷ l) = ap (λ (b : A). b ∷ map g (map f l)) (same a) ∙ ap (λ (m : List A). h a ∷ m) (each-twice f g h same l)
+each-twice f g h same l = map-map g f l ∙ map-congr-left {l = l} (λ a _. same a)
 
 module _ (ρ σ : ℕ → ℕ) where
-  -- where a page is renamed at all
+  -- a page that is renamed or not: in turn, or by both
   twice : (b : Bool) (page : ℕ) → pick b (σ (pick b (ρ page) page)) (pick b (ρ page) page) ≡ pick b (inTurn ρ σ page) page
   twice true page = refl
   twice false page = refl
@@ -42,6 +44,10 @@ module _ (ρ σ : ℕ → ℕ) where
   trace-in-turn : (o u : Order) (t : Trace) → renamedTrace σ u (renamedTrace ρ o t) ≡ renamedTrace (inTurn ρ σ) u t
   trace-in-turn o u t = ap (λ (pages : List ℕ). traceFrom (t .settings) u pages (t .kinds)) (pages-in-turn (t .pages))
 
+  -- the bytes of an accepted trace
+  bytes-in-turn : (p : Pool) (s : List ℕ) → Given p s → Renames ρ (pagesTogether p (traceOf s)) → (o u : Order) → renamedBytes σ u (renamedBytes ρ o s) ≡ renamedBytes (inTurn ρ σ) u s
+  bytes-in-turn p s given names o u = ap (λ (t : Trace). encode (renamedTrace σ u t)) (read-back ρ p s given names o) ∙ ap encode (trace-in-turn o u (traceOf s))
+
   -- rows
   row-in-turn : (w : Row) → renamedRow σ (renamedRow ρ w) ≡ renamedRow (inTurn ρ σ) w
   row-in-turn w = ap (λ (page : ℕ). row (w .outcome) (w .frame) page (w .batch)) (twice (isEviction w) (w .left))
@@ -56,8 +62,8 @@ module _ (ρ σ : ℕ → ℕ) where
   -- both together are one-to-one where the second is on the renamed pages
   names-in-turn : (pages : List ℕ) → Renames ρ pages → Renames σ (renamedPages ρ pages) → Renames (inTurn ρ σ) pages
   names-in-turn pages first second = record {
-    one-to-one = λ a b x y e. first .one-to-one a b x y (second .one-to-one (ρ a) (ρ b) (renamed-in ρ pages a x) (renamed-in ρ pages b y) e);
-    four-bytes = λ a x. second .four-bytes (ρ a) (renamed-in ρ pages a x);
+    one-to-one = λ a b x y e. first .one-to-one a b x y (second .one-to-one (ρ a) (ρ b) (among-map ρ pages a x) (among-map ρ pages b y) e);
+    four-bytes = λ a x. second .four-bytes (ρ a) (among-map ρ pages a x);
   }
 
   -- the pages of a trace and a pool, and those of the renamed ones
@@ -65,4 +71,4 @@ module _ (ρ σ : ℕ → ℕ) where
   together-in-turn p o t first second = names-in-turn (pagesTogether p t) first (subst (Renames σ) (together-renamed ρ p o t) second)
 
   pub in-turn : InTurn ρ σ
-  in-turn = record { pages = pages-in-turn; pool = pool-in-turn; trace = trace-in-turn; row = row-in-turn; played = played-in-turn; names = together-in-turn }
+  in-turn = record { pages = pages-in-turn; pool = pool-in-turn; trace = trace-in-turn; bytes = bytes-in-turn; row = row-in-turn; played = played-in-turn; names = together-in-turn }

@@ -1,21 +1,22 @@
--- That no two pages may get one number is needed: a pool, a trace, and a renaming that merges two pages.
+-- That ρ is one-to-one on the pages of trace and pool together is needed.
 use mathlib.Core.Path.{_≡_, refl, ap, sym, _∙_}
-use mathlib.Core.Bool.{true}
-use mathlib.Core.List.{List, [], _∷_}
-use Prim.Native.Nat.{ℕ, _<_}
+use mathlib.Core.Bool.{true, or-false}
+use mathlib.Core.List.{[], _∷_}
+use Prim.Native.Nat.{ℕ}
 use native.Mathlib.Omega.{arith}
-use lib.ListN.{getD-replicate}
-use Rattle.search.specs.Search.{leastBelow, everyBelow}
+use lib.Dec.{eqb}
+use borrow.Author.Tests.{eqb-true}
+use Rattle.search.specs.Search.{leastBelow, everyBelow, among}
 use Rattle.word.specs.declared.Order.the-variants.{High}
 use Rattle.settings.specs.Settings.{inRange}
-use Rattle.trace.specs.Layout.{Trace, traceFrom, settingsAt, traceAt}
+use Rattle.trace.specs.Layout.{traceFrom, settingsAt, traceAt}
 use Rattle.trace.specs.Encode.{headerBytes, recordBytes, encode}
 use Rattle.trace.specs.Check.{layoutRefusal, contentRefusal, refusalIn, refusalOf, traceOf}
 use Rattle.trace.proofs.Bytes.{encode-bytes}
-use Rattle.pool.specs.declared.Pool.{Pool}
-use Rattle.pool.specs.Pool.{emptyFrame, oneFrame, emptyPool, lastEpochOf}
+use Rattle.pool.specs.Pool.{oneFrame, emptyPool, nowOf, lastEpochOf}
 use Rattle.pool.specs.Sound.{soundLog, soundPool}
 use Rattle.reference.specs.Search.{findPage, lowestUnused}
+use Rattle.reference.specs.Logs.{putFront, cleared, lengthWith, logWith}
 use Rattle.reference.specs.Reference.{referred, hitAt, fetchedAt}
 use Rattle.victim.specs.Lru.{lruVictim, lruChoice}
 use Rattle.victim.specs.Rules.{choiceOf}
@@ -25,70 +26,55 @@ use Rattle.tally.specs.Tally.{zeroTally, countedBy}
 use Rattle.effect.specs.Record.{hitOf, leavingOf, evictionOf, missOf, referenceOf, recordOf}
 use Rattle.replay.specs.Replay.{Played, replayTo, replayOf}
 use Rattle.rename.specs.Renamed.{renamedPool, renamedBytes}
-use Rattle.rename.specs.Sameness.{Given, OnlySameness}
+use Rattle.rename.specs.Sameness.{residentPages, Renames, Given}
+use Rattle.rename.specs.Needed.{pool, trace, merging, DemandApart}
 
--- a fresh pool of one frame
-abbrev pub pool : Pool
-pool = emptyPool oneFrame
-
--- read 1, read 2
-abbrev pub trace : Trace
-trace = traceFrom oneFrame High (1 ∷ 2 ∷ []) (0 ∷ 0 ∷ [])
-
-abbrev pub bytes : List ℕ
-bytes = encode trace
-
--- pages 1 and 2 both become 1
-abbrev pub merging : ℕ → ℕ
-merging page = 1
-
-bytes-trace : traceOf bytes ≡ trace
+bytes-trace : traceOf (encode trace) ≡ trace
 unfolding traceOf traceAt settingsAt encode headerBytes recordBytes
 bytes-trace = refl
 
-merged-trace : traceOf (renamedBytes merging High bytes) ≡ traceFrom oneFrame High (1 ∷ 1 ∷ []) (0 ∷ 0 ∷ [])
+merged-trace : traceOf (renamedBytes merging High (encode trace)) ≡ traceFrom oneFrame High (1 ∷ []) (0 ∷ [])
 unfolding traceOf traceAt settingsAt encode headerBytes recordBytes
 merged-trace = refl
 
 pool-sound : soundPool pool ≡ true
-unfolding soundPool soundLog everyBelow inRange lastEpochOf emptyPool
+unfolding soundPool soundLog everyBelow inRange lastEpochOf emptyPool recordOf referenceOf missOf findPage lowestUnused leastBelow fetchedAt referred nowOf putFront cleared lengthWith logWith
 pool-sound = refl
 
-bytes-accepted : refusalOf bytes ≡ 0
+bytes-accepted : refusalOf (encode trace) ≡ 0
 unfolding refusalOf refusalIn layoutRefusal contentRefusal settingsAt inRange encode headerBytes recordBytes
 bytes-accepted = refl
 
--- they are given as the demand says
-pub given : Given pool bytes
-unfolding emptyPool
-given = record {
-  stored = record {
-    bytes = encode-bytes trace;
-    pages = λ i l. rw (getD-replicate 128 i emptyFrame emptyFrame l) (omega arith);
-    frames = refl;
-    access = refl;
-    write = refl;
-  };
-  sound = pool-sound;
-  accepted = bytes-accepted;
+-- both are given as the demand says
+given : Given pool (encode trace)
+unfolding emptyPool recordOf referenceOf missOf findPage lowestUnused leastBelow fetchedAt referred nowOf putFront cleared lengthWith logWith
+given = record { stored = record { bytes = encode-bytes trace; frames = refl; access = refl; write = refl }; sound = pool-sound; accepted = bytes-accepted }
+
+-- a renaming is one-to-one on one page
+one-page : (x : ℕ) → Renames merging (x ∷ [])
+unfolding among
+one-page x = record {
+  one-to-one = λ a b h k _. sym (eqb-true x a (sym (or-false (eqb x a)) ∙ h)) ∙ eqb-true x b (sym (or-false (eqb x b)) ∙ k);
+  four-bytes = λ a _. omega arith;
 }
 
--- two misses become a miss and a hit
-pub counts-before : replayOf pool zeroTally (traceOf bytes) .tally ≡ record { hits = 0; misses = 2; evictions = 1; batches = 0; written = 0; refused = 0 }
+pool-page : residentPages (pool .frames) ≡ 1 ∷ []
+unfolding residentPages emptyPool recordOf referenceOf missOf findPage lowestUnused leastBelow fetchedAt referred
+pool-page = refl
+
+-- a miss becomes a hit
+pub counts-before : replayOf pool zeroTally (traceOf (encode trace)) .tally ≡ record { hits = 0; misses = 1; evictions = 1; batches = 0; written = 0; refused = 0 }
 unfolding countedBy replayTo recordOf referenceOf hitOf missOf evictionOf leavingOf emptyPool findPage lowestUnused leastBelow referred hitAt fetchedAt choiceOf lruChoice lruVictim batchOf cleaned pagesOf
 counts-before = rw bytes-trace refl
 
-pub counts-after : replayOf (renamedPool merging pool) zeroTally (traceOf (renamedBytes merging High bytes)) .tally ≡ record { hits = 1; misses = 1; evictions = 0; batches = 0; written = 0; refused = 0 }
-unfolding countedBy replayTo recordOf referenceOf hitOf missOf evictionOf leavingOf emptyPool findPage lowestUnused leastBelow referred hitAt fetchedAt
+pub counts-after : replayOf (renamedPool merging pool) zeroTally (traceOf (renamedBytes merging High (encode trace))) .tally
+    ≡ record { hits = 1; misses = 0; evictions = 0; batches = 0; written = 0; refused = 0 }
+unfolding countedBy replayTo recordOf referenceOf hitOf missOf emptyPool findPage lowestUnused leastBelow referred hitAt fetchedAt
 counts-after = rw merged-trace refl
 
--- the demand of every renaming to 4-byte numbers, merging or not
-abbrev pub DemandOfAny : Type 0
-DemandOfAny = (ρ : ℕ → ℕ) (p : Pool) (t : Tally) (s : List ℕ) → Given p s → ((a : ℕ) → ρ a < 4294967296) → OnlySameness ρ p t s
-
--- does not hold
-pub needed : DemandOfAny → ⊥
+-- so that the demand does not hold with less
+pub needed : DemandApart → ⊥
 needed demand =
-    let h = demand merging pool zeroTally bytes given (λ a. omega arith) in
+    let h = demand merging pool zeroTally (encode trace) given (rw bytes-trace (one-page 2)) (rw pool-page (one-page 1)) in
     let e = ap (λ (t : Tally). t .hits) (sym counts-after ∙ ap (λ (r : Played). r .tally) (h .replayed High) ∙ counts-before) in
     omega arith

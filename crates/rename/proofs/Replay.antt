@@ -14,15 +14,16 @@ use Rattle.pool.proofs.Sizes.{Sized}
 use Rattle.tally.specs.declared.Row.{Row}
 use Rattle.tally.specs.declared.Tally.{Tally}
 use Rattle.tally.specs.Tally.{countedBy}
+use Rattle.tally.proofs.Laws.{within-own}
 use Rattle.effect.specs.Record.{Did, recordOf}
-use Rattle.effect.proofs.Kept.{record-kept}
-use Rattle.replay.specs.Replay.{Played, after, replayTo}
+use Rattle.replay.specs.Replay.{Played, after, replayTo, replayOf}
 use Rattle.replay.proofs.Laws.{doing, replay-none, replay-suc}
-use Rattle.rename.specs.Renamed.{renamedPages, renamedPool, renamedTrace, renamedRow, renamedDid, renamedPlayed}
+use Rattle.replay.proofs.Going.{going}
+use Rattle.rename.specs.Renamed.{renamedPages, renamedPool, renamedTrace, renamedRow, renamedPlayed}
 use Rattle.rename.specs.Sameness.{Renames}
-use Rattle.rename.proofs.Frames.{Holds}
-use Rattle.rename.proofs.Residents.{holds-record}
-use Rattle.rename.proofs.Record.{record-renamed}
+use Rattle.rename.proofs.Frames.{AllListed}
+use Rattle.rename.proofs.Residents.{record-listed}
+use Rattle.rename.proofs.Record.{renamedDid, record-renamed}
 use Rattle.rename.proofs.Pages.{renamed-at}
 
 -- one record more
@@ -34,33 +35,36 @@ after-renamed ρ r d =
     ∙ ap (λ (written : List ℕ). record { rows = map (renamedRow ρ) (r .rows ++ (d .row ∷ [])); written = written; pool = renamedPool ρ (d .pool); tally = countedBy (r .tally) (d .row) })
     (sym (map-append ρ (r .written) (d .written)))
 
--- the pool of a replay: sound, its arrays as long as they were, and no page but those
-record Held (pages : List ℕ) (p : Pool) : Type 0 where
-  sound : Sound p
-  sized : Sized p
-  holds : Holds pages (p .frames)
+module _ (ρ : ℕ → ℕ) (pages : List ℕ) (names : Renames ρ pages) (p : Pool) (s : Sound p) (z : Sized p) (listed : AllListed pages (p .frames)) (t : Tally) (trace : Trace)
+    (here : (n : ℕ) → n < length (trace .pages) → among pages (getD (trace .pages) n 0) ≡ true) (o : Order) where
+  -- after n records: the replay is renamed, and no page has turned up that is not in the list
+  record Renamed (n : ℕ) : Type 0 where
+    played : replayTo (renamedPool ρ p) t (renamedTrace ρ o trace) n ≡ renamedPlayed ρ (replayTo p t trace n)
+    known : AllListed pages (replayTo p t trace n .pool .frames)
 
-module _ (ρ : ℕ → ℕ) (pages : List ℕ) (names : Renames ρ pages) (p : Pool) (s : Sound p) (z : Sized p) (holds : Holds pages (p .frames)) (t : Tally) (trace : Trace)
-    (here : (n : ℕ) → n < length (trace .pages) → among pages (getD (trace .pages) n 0) ≡ true) where
-  held : (n : ℕ) → n ≤ length (trace .pages) → Held pages (replayTo p t trace n .pool)
-  held zero l = subst (λ (r : Played). Held pages (r .pool)) (sym (replay-none p t trace)) (record { sound = s; sized = z; holds = holds })
-  held (suc n) l =
-      let h = held n (omega arith) in
-      let q = replayTo p t trace n .pool in
-      let k = record-kept q (h .sound) (h .sized) (recordIn trace n .page) (recordIn trace n .kind) in
-      subst (λ (r : Played). Held pages (r .pool)) (sym (replay-suc p t trace n))
-      (record { sound = k .sound; sized = k .sized; holds = holds-record pages q (h .holds) (recordIn trace n .page) (here n l) (recordIn trace n .kind) })
-
-  pub replay-renamed : (o : Order) (n : ℕ) → n ≤ length (trace .pages) → replayTo (renamedPool ρ p) t (renamedTrace ρ o trace) n ≡ renamedPlayed ρ (replayTo p t trace n)
-  replay-renamed o zero l = replay-none (renamedPool ρ p) t (renamedTrace ρ o trace) ∙ sym (ap (renamedPlayed ρ) (replay-none p t trace))
-  replay-renamed o (suc n) l =
+  -- one record more
+  next : (n : ℕ) → n < length (trace .pages) → Renamed n → Renamed (suc n)
+  next n l h =
       let r = replayTo p t trace n in
       let page = recordIn trace n .page in
       let kind = recordIn trace n .kind in
-      let h = held n (omega arith) in
-      replay-suc (renamedPool ρ p) t (renamedTrace ρ o trace) n
-      ∙ ap (λ (q : Played). after q (recordOf (q .pool) (recordIn (renamedTrace ρ o trace) n .page) kind)) (replay-renamed o n (omega arith))
-      ∙ ap (λ (a : ℕ). after (renamedPlayed ρ r) (recordOf (renamedPool ρ (r .pool)) a kind)) (renamed-at ρ (trace .pages) n l)
-      ∙ ap (after (renamedPlayed ρ r)) (record-renamed ρ pages names (r .pool) (h .sound) (h .holds) page (here n l) kind)
-      ∙ after-renamed ρ r (doing p t trace n)
-      ∙ sym (ap (renamedPlayed ρ) (replay-suc p t trace n))
+      let sound = going p t trace s z (within-own t) n .sound in
+      record {
+        played = replay-suc (renamedPool ρ p) t (renamedTrace ρ o trace) n
+            ∙ ap (λ (q : Played). after q (recordOf (q .pool) (recordIn (renamedTrace ρ o trace) n .page) kind)) (h .played)
+            ∙ ap (λ (a : ℕ). after (renamedPlayed ρ r) (recordOf (renamedPool ρ (r .pool)) a kind)) (renamed-at ρ (trace .pages) n l)
+            ∙ ap (after (renamedPlayed ρ r)) (record-renamed ρ pages names (r .pool) sound (h .known) page (here n l) kind)
+            ∙ after-renamed ρ r (doing p t trace n)
+            ∙ sym (ap (renamedPlayed ρ) (replay-suc p t trace n));
+        known = subst (λ (q : Played). AllListed pages (q .pool .frames)) (sym (replay-suc p t trace n)) (record-listed pages (r .pool) (h .known) page (here n l) kind);
+      }
+
+  renamed-to : (n : ℕ) → n ≤ length (trace .pages) → Renamed n
+  renamed-to zero l = record {
+    played = replay-none (renamedPool ρ p) t (renamedTrace ρ o trace) ∙ sym (ap (renamedPlayed ρ) (replay-none p t trace));
+    known = subst (λ (q : Played). AllListed pages (q .pool .frames)) (sym (replay-none p t trace)) listed;
+  }
+  renamed-to (suc n) l = next n l (renamed-to n (omega arith))
+
+  pub replay-renamed : replayTo (renamedPool ρ p) t (renamedTrace ρ o trace) (length (trace .pages)) ≡ renamedPlayed ρ (replayOf p t trace)
+  replay-renamed = renamed-to (length (trace .pages)) (omega arith) .played

@@ -4,24 +4,24 @@ use mathlib.Core.Bool.{Bool, true, false}
 use mathlib.Core.List.{List, map}
 use Prim.Native.Nat.{ℕ, _<_}
 use native.Mathlib.Omega.{arith}
-use Rattle.search.proofs.Count.{count-cong}
 use Rattle.pool.specs.declared.Frame.{Frame}
 use Rattle.pool.specs.declared.Pool.{Pool}
-use Rattle.pool.specs.Pool.{frameRoom, frameAt, lastEpochOf}
+use Rattle.pool.specs.Pool.{frameAt, lastEpochOf}
 use Rattle.pool.proofs.Sound.{SoundFrame, Sound}
 use Rattle.effect.specs.Record.{dirtyIn}
+use Rattle.effect.proofs.Dirty.{dirty-same}
 use Rattle.rename.specs.Renamed.{renamedFrame, renamedPool}
 use Rattle.rename.specs.Sameness.{Renames}
-use Rattle.rename.proofs.Frames.{frame-renamed, page-renamed, Holds}
+use Rattle.rename.proofs.Frames.{frame-renamed, page-renamed, AllListed}
 
-module _ (ρ : ℕ → ℕ) (pages : List ℕ) (names : Renames ρ pages) (p : Pool) (s : Sound p) (holds : Holds pages (p .frames)) where
+module _ (ρ : ℕ → ℕ) (pages : List ℕ) (names : Renames ρ pages) (p : Pool) (s : Sound p) (listed : AllListed pages (p .frames)) where
   abbrev f : ℕ → Frame
   f i = frameAt (p .frames) i
 
   abbrev r : ℕ → Frame
   r i = frameAt (renamedPool ρ p .frames) i
 
-  -- what does not look at the page
+  -- a field of a renamed frame
   same : {A : Type 0} (field : Frame → A) (i : ℕ) → field (r i) ≡ field (renamedFrame ρ (f i))
   same field i = ap field (frame-renamed ρ (p .frames) i)
 
@@ -29,7 +29,7 @@ module _ (ρ : ℕ → ℕ) (pages : List ℕ) (names : Renames ρ pages) (p : P
   was i u = sym (same (λ fr. fr .used) i) ∙ u
 
   apart : (i j : ℕ) → f i .used ≡ true → f j .used ≡ true → (f j .page ≡ f i .page → ⊥) → r j .page ≡ r i .page → ⊥
-  apart i j u v other e = other (names .one-to-one (f j .page) (f i .page) (holds j v) (holds i u) (sym (page-renamed ρ (p .frames) j v) ∙ e ∙ page-renamed ρ (p .frames) i u))
+  apart i j u v other e = other (names .one-to-one (f j .page) (f i .page) (listed j v) (listed i u) (sym (page-renamed ρ (p .frames) j v) ∙ e ∙ page-renamed ρ (p .frames) i u))
 
   frame-sound : (i : ℕ) → i < 128 → SoundFrame (renamedPool ρ p) i
   unfolding lastEpochOf
@@ -56,11 +56,9 @@ module _ (ρ : ℕ → ℕ) (pages : List ℕ) (names : Renames ρ pages) (p : P
   pages-fit i l = go (f i .used) refl
     where
       go : (u : Bool) → f i .used ≡ u → r i .page < 4294967296
-      go true u = rw (page-renamed ρ (p .frames) i u) (names .four-bytes (f i .page) (holds i u))
+      go true u = rw (page-renamed ρ (p .frames) i u) (names .four-bytes (f i .page) (listed i u))
       go false u = rw (frame-renamed ρ (p .frames) i, s .frame i l .zero u) (omega arith)
 
 -- as many frames are dirty
 pub dirty-renamed : (ρ : ℕ → ℕ) (fs : List Frame) → dirtyIn (map (renamedFrame ρ) fs) ≡ dirtyIn fs
-unfolding dirtyIn
-dirty-renamed ρ fs =
-    count-cong (λ i. frameAt (map (renamedFrame ρ) fs) i .dirty) (λ i. frameAt fs i .dirty) frameRoom (λ i _. ap (λ (fr : Frame). fr .dirty) (frame-renamed ρ fs i))
+dirty-renamed ρ fs = dirty-same (map (renamedFrame ρ) fs) fs (λ i _. ap (λ (fr : Frame). fr .dirty) (frame-renamed ρ fs i))

@@ -1,4 +1,5 @@
 pub mod Renamed
 pub mod Sameness
+pub mod Needed
 pub mod Calls
 pub mod Composed

@@ -1,4 +1,4 @@
--- Renaming pages by ρ, any numbers for numbers: what a list, a pool, a trace, a row and an answer become.
+-- Renaming pages: where ρ gives each page its new number, what a list, a pool, a trace, a row and an answer become.
 use Prim.Native.Nat.{ℕ}
 use mathlib.Core.Bool.{Bool}
 use mathlib.Core.List.{List, map}
@@ -9,11 +9,9 @@ use Rattle.trace.specs.Encode.{encode}
 use Rattle.trace.specs.Check.{traceOf}
 use Rattle.pool.specs.declared.Frame.{Frame}
 use Rattle.pool.specs.declared.Pool.{Pool}
-use Rattle.pool.specs.Pool.{withPage}
-use Rattle.batch.specs.Batch.{withFrames}
+use Rattle.pool.specs.Pool.{withPage, withFrames}
 use Rattle.tally.specs.declared.Row.{Row}
 use Rattle.tally.specs.Rows.{row, isEviction}
-use Rattle.effect.specs.Record.{Did, did}
 use Rattle.replay.specs.declared.Stepped.{Stepped}
 use Rattle.replay.specs.declared.Ended.{Ended}
 use Rattle.replay.specs.Replay.{Played}
@@ -47,10 +45,6 @@ module _ (ρ : ℕ → ℕ) where
   -- a row: the page that left, in outcomes 2 and 3; a 0 without a meaning stays 0
   abbrev pub renamedRow : Row → Row
   renamedRow w = row (w .outcome) (w .frame) (pick (isEviction w) (ρ (w .left)) (w .left)) (w .batch)
-
-  -- what a record did: its row, the pages written, the pool afterwards
-  abbrev pub renamedDid : Did → Did
-  renamedDid d = did (renamedRow (d .row)) (renamedPages (d .written)) (renamedPool (d .pool))
 
   -- what a replay came to: its rows, the pages written, its end pool; the counts stay
   abbrev pub renamedPlayed : Played → Played

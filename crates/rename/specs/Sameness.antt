@@ -31,24 +31,25 @@ pub record Renames (ρ : ℕ → ℕ) (pages : List ℕ) : Type 0 where
   pub one-to-one : (a b : ℕ) → among pages a ≡ true → among pages b ≡ true → ρ a ≡ ρ b → a ≡ b
   pub four-bytes : (a : ℕ) → among pages a ≡ true → ρ a < 4294967296
 
--- numbers and arrays as the memory of a host holds them: bytes, pages of 4 bytes, and the lengths of a pool's arrays
+-- what the types say of a pool and of bytes: the lengths of a pool's arrays, and that bytes are below 256
 pub record Stored (p : Pool) (s : List ℕ) : Type 0 where
   pub bytes : (i : ℕ) → getD s i 0 < 256
-  pub pages : (i : ℕ) → i < frameRoom → frameAt (p .frames) i .page < 4294967296
   pub frames : length (p .frames) ≡ frameRoom
   pub access : length (p .access) ≡ frameRoom * accessRoom
   pub write : length (p .write) ≡ frameRoom * writeRoom
 
--- any sound pool, and any accepted trace; that it has the pool's settings is not asked, since where it has others the calls refuse both by 15
+-- any sound pool, and any accepted trace; that it has the pool's settings need not be asked, since a replay looks at the pool's alone
 pub record Given (p : Pool) (s : List ℕ) : Type 0 where
   pub stored : Stored p s
   pub sound : soundPool p ≡ true
   pub accepted : refusalOf s ≡ 0
 
--- then the renamed pool is sound, and the renamed trace, written in either order, is accepted, with the same settings, count and kinds; and its replay
--- from the renamed pool, with any tally, is the renamed replay
+-- then the renamed pool is sound, and its pages are 4-byte numbers; the renamed trace, written in either order, is bytes and is accepted, with the same
+-- settings, count and kinds; and its replay from the renamed pool, with any tally, is the renamed replay
 pub record OnlySameness (ρ : ℕ → ℕ) (p : Pool) (t : Tally) (s : List ℕ) : Type 0 where
-  pub given : (o : Order) → Given (renamedPool ρ p) (renamedBytes ρ o s)
+  pub sound : soundPool (renamedPool ρ p) ≡ true
+  pub pages : (i : ℕ) → i < frameRoom → frameAt (renamedPool ρ p .frames) i .page < 4294967296
+  pub stored : (o : Order) → Stored (renamedPool ρ p) (renamedBytes ρ o s)
   pub accepted : (o : Order) → checkOf (renamedBytes ρ o s) ≡ Accepted (record { settings = traceOf s .settings; order = o; count = length (traceOf s .pages) })
   pub read : (o : Order) → traceOf (renamedBytes ρ o s) ≡ renamedTrace ρ o (traceOf s)
   pub replayed : (o : Order) → replayOf (renamedPool ρ p) t (traceOf (renamedBytes ρ o s)) ≡ renamedPlayed ρ (replayOf p t (traceOf s))

@@ -12,33 +12,33 @@ use Rattle.pool.proofs.Sound.{Sound}
 use Rattle.pool.proofs.Sizes.{Sized}
 use Rattle.tally.specs.declared.Tally.{Tally}
 use Rattle.tally.specs.Tally.{tallyLimit, Within, countedBy, pagesIn}
-use Rattle.tally.proofs.Laws.{within-counted, pages-snoc}
+use Rattle.tally.proofs.Laws.{within-more, within-counted, pages-snoc}
 use Rattle.effect.specs.Record.{Did, dirtyIn}
 use Rattle.effect.proofs.Kept.{Kept, record-kept}
 use Rattle.replay.specs.Replay.{Played, started, after, replayTo}
 use Rattle.replay.proofs.Laws.{doing, replay-none, replay-suc, writesTo, writes-suc, writes-all, writes-rise}
 
--- a replay so far: its pool sound and of the same settings, no more pages written than were dirty, its counts bounded
-pub record Going (p : Pool) (trace : Trace) (n : ℕ) (r : Played) : Type 0 where
+-- a replay so far, from counts of at most m: its pool sound and of the same settings, no more pages written than were dirty, its counts bounded
+pub record Going (p : Pool) (trace : Trace) (m n : ℕ) (r : Played) : Type 0 where
   pub sound : Sound (r .pool)
   pub sized : Sized (r .pool)
   pub settings : r .pool .settings ≡ p .settings
   pub spent : length (r .written) + dirtyIn (r .pool .frames) ≤ dirtyIn (p .frames) + writesTo trace n
-  pub counts : Within (r .tally) (tallyLimit + 16 * n)
+  pub counts : Within (r .tally) (m + 16 * n)
   pub pages : pagesIn (r .rows) ≡ length (r .written)
 
-module _ (p : Pool) (t : Tally) (trace : Trace) (s : Sound p) (z : Sized p) (w : Within t tallyLimit) where
-  begins : Going p trace 0 (started p t)
-  begins = record { sound = s; sized = z; settings = refl; spent = omega arith; counts = w; pages = refl }
+module _ (p : Pool) (t : Tally) (trace : Trace) (s : Sound p) (z : Sized p) {m : ℕ} (w : Within t m) where
+  begins : Going p trace m 0 (started p t)
+  begins = record { sound = s; sized = z; settings = refl; spent = omega arith; counts = within-more t m (m + 16 * 0) (omega arith) w; pages = refl }
 
-  goes-on : (n : ℕ) (r : Played) (d : Did) → Going p trace n r → Kept (r .pool) (oneIf (eqb (recordIn trace n .kind) 1)) d → Going p trace (suc n) (after r d)
+  goes-on : (n : ℕ) (r : Played) (d : Did) → Going p trace m n r → Kept (r .pool) (oneIf (eqb (recordIn trace n .kind) 1)) d → Going p trace m (suc n) (after r d)
   goes-on n r d g k =
       let l = length-append (r .written) (d .written) in
       let x = g .spent in
       let y = k .spent in
       let e = writes-suc trace n in
       let few = ranges (r .pool .settings) (g .sound .settings) .batch .1 in
-      let m = k .few in
+      let pages-few = k .few in
       let b = k .counted in
       let ps = g .pages in
       let snoc = pages-snoc (r .rows) (d .row) 0 in
@@ -47,14 +47,14 @@ module _ (p : Pool) (t : Tally) (trace : Trace) (s : Sound p) (z : Sized p) (w :
         sized = k .sized;
         settings = k .settings ∙ g .settings;
         spent = omega arith;
-        counts = subst (Within (countedBy (r .tally) (d .row))) (omega arith) (within-counted (r .tally) (d .row) (tallyLimit + 16 * n) (g .counts) (omega arith));
+        counts = subst (Within (countedBy (r .tally) (d .row))) (omega arith) (within-counted (r .tally) (d .row) (m + 16 * n) (g .counts) (omega arith));
         pages = omega arith;
       }
 
-  pub going : (n : ℕ) → Going p trace n (replayTo p t trace n)
-  going zero = subst (Going p trace 0) (sym (replay-none p t trace)) begins
+  pub going : (n : ℕ) → Going p trace m n (replayTo p t trace n)
+  going zero = subst (Going p trace m 0) (sym (replay-none p t trace)) begins
   going (suc n) =
-      subst (Going p trace (suc n)) (sym (replay-suc p t trace n))
+      subst (Going p trace m (suc n)) (sym (replay-suc p t trace n))
       (goes-on n (replayTo p t trace n) (doing p t trace n) (going n) (record-kept (replayTo p t trace n .pool) (going n .sound) (going n .sized) (recordIn trace n .page) (recordIn trace n .kind)))
 
   -- what record n does

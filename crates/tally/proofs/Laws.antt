@@ -71,6 +71,17 @@ within-bound t h =
       refused = leb-true (t .refused) tallyLimit (h5 .1);
     }
 
+-- every tally has a bound
+pub within-own : (t : Tally) → Within t (t .hits + t .misses + t .evictions + t .batches + t .written + t .refused)
+within-own t = record {
+  hits = omega arith;
+  misses = omega arith;
+  evictions = omega arith;
+  batches = omega arith;
+  written = omega arith;
+  refused = omega arith;
+}
+
 -- a bound may be taken higher
 pub within-more : (t : Tally) (m n : ℕ) → m ≤ n → Within t m → Within t n
 within-more t m n l b = record {

@@ -9,7 +9,7 @@ use lib.Dec.{eqb}
 use Rattle.search.specs.declared.Found.the-variants.{At, Nothing}
 use Rattle.pool.specs.declared.Frame.{Frame}
 use Rattle.pool.specs.declared.Pool.{Pool}
-use Rattle.pool.specs.Pool.{frameAt, emptyFrame, withCount, withPage}
+use Rattle.pool.specs.Pool.{frameAt, emptyFrame, withCount, withPage, withFrames}
 use Rattle.pool.proofs.Sound.{Sound}
 use Rattle.pool.proofs.Quiet.{Alike, Quiet}
 use Rattle.victim.specs.declared.Choice.{Choice}
@@ -24,7 +24,7 @@ abbrev pub repaged : (Bool → ℕ → ℕ) → Frame → Frame
 repaged new fr = withPage fr (new (fr .used) (fr .page))
 
 abbrev pub repagedPool : (Bool → ℕ → ℕ) → Pool → Pool
-repagedPool new p = record { settings = p .settings; k = p .k; hand = p .hand; sampler = p .sampler; frames = map (repaged new) (p .frames); access = p .access; write = p .write }
+repagedPool new p = withFrames p (map (repaged new) (p .frames))
 
 abbrev pub repagedChoice : (Bool → ℕ → ℕ) → Choice → Choice
 repagedChoice new c = record { found = c .found; hand = c .hand; sampler = c .sampler; frames = map (repaged new) (c .frames) }

@@ -27,6 +27,13 @@ by-rule P zero lru clock watt x y z = x
 by-rule P (suc zero) lru clock watt x y z = y
 by-rule P (suc (suc r)) lru clock watt x y z = z
 
+-- and where each rule's answer is what f makes of another, so is the answer by number
+pub rule-each {ℓ} : {A B : Type ℓ} (f : A → B) (r : ℕ) (lru clock watt : A) (lru′ clock′ watt′ : B)
+    → lru′ ≡ f lru → clock′ ≡ f clock → watt′ ≡ f watt → byRule r lru′ clock′ watt′ ≡ f (byRule r lru clock watt)
+rule-each f zero lru clock watt lru′ clock′ watt′ x y z = x
+rule-each f (suc zero) lru clock watt lru′ clock′ watt′ x y z = y
+rule-each f (suc (suc r)) lru clock watt lru′ clock′ watt′ x y z = z
+
 pub rule-rest {ℓ} : {A : Type ℓ} (r : ℕ) (lru clock watt : A) → 2 ≤ r → byRule r lru clock watt ≡ watt
 rule-rest zero lru clock watt l = absurd (omega arith)
 rule-rest (suc zero) lru clock watt l = absurd (omega arith)
@@ -53,12 +60,10 @@ module _ (P : Pool → Choice → Type 0) where
 
 choice-pages : (new : Bool → ℕ → ℕ) → EmptyStays new → (p : Pool) → choiceOf (repagedPool new p) ≡ repagedChoice new (choiceOf p)
 unfolding choiceOf
-choice-pages new stays p = go (p .settings .rule)
-  where
-    go : (r : ℕ) → byRule r (lruChoice (repagedPool new p)) (clockChoice (repagedPool new p)) (wattChoice (repagedPool new p)) ≡ repagedChoice new (byRule r (lruChoice p) (clockChoice p) (wattChoice p))
-    go zero = lru-owes .pages new stays p
-    go (suc zero) = clock-owes .pages new stays p
-    go (suc (suc r)) = watt-owes .pages new stays p
+choice-pages new stays p =
+    let q = repagedPool new p in
+    rule-each (repagedChoice new) (p .settings .rule) (lruChoice p) (clockChoice p) (wattChoice p) (lruChoice q) (clockChoice q) (wattChoice q)
+    (lru-owes .pages new stays p) (clock-owes .pages new stays p) (watt-owes .pages new stays p)
 
 pub choice-owes : Owes choiceOf
 choice-owes = record {

@@ -23,7 +23,7 @@ use Rattle.pool.proofs.Sizes.{Sized}
 use Rattle.tally.specs.declared.Row.{Row}
 use Rattle.tally.specs.declared.Tally.{Tally}
 use Rattle.tally.specs.Rows.{row, isHit, isMiss, isEviction, isBatch, isRefused}
-use Rattle.tally.specs.Tally.{howMany, pagesIn, countedRows}
+use Rattle.tally.specs.Tally.{tallyLimit, howMany, pagesIn, countedRows}
 use Rattle.effect.specs.Record.{recordOf, dirtyIn}
 use Rattle.replay.specs.declared.Stepped.{Stepped}
 use Rattle.replay.specs.declared.Ended.{Ended}
@@ -161,7 +161,7 @@ module _ (p : Pool) (t : Tally) (s rows written : List ℕ) (r : Ended) (rows′
     tally-counts = subst (Counts t (played .rows)) (sym (ap (λ (e : Ended). e .tally) (ran .answers))) (each-count p t (traceOf s))
 
     module _ (z : Sized p) where
-      gone : Going p (traceOf s) (length (traceOf s .pages)) played
+      gone : Going p (traceOf s) tallyLimit (length (traceOf s .pages)) played
       gone = going p t (traceOf s) (told p (begins-sound p t begun)) z (begins-within p t begun) (length (traceOf s .pages))
 
       -- the count of pages written is raised by the number of written pages

@@ -21,7 +21,7 @@ use Rattle.worth.proofs.Order.{less-asym, less-weak}
 use Rattle.victim.proofs.watt.Values.{value-positive}
 use Rattle.victim.proofs.Owed.{AllPinned, repagedPool, repagedChoice, EmptyStays, frame-repaged, lowered-same, quiet-of, Owes}
 
--- it does not look at page numbers
+-- it does not look at page numbers; this stands first, so that an order that looks at them is refused here
 module _ (new : Bool → ℕ → ℕ) (stays : EmptyStays new) (p : Pool) where
   pub value-repaged : (i : ℕ) → valueAt (repagedPool new p) i ≡ valueAt p i
   unfolding valueAt nowOf
