@@ -3,7 +3,6 @@ use mathlib.Core.Path.{_≡_, refl, ap, subst, _∙_}
 use mathlib.Core.Bool.{Bool, true, false}
 use mathlib.Core.List.{List, map, map-map, map-congr-left}
 use Prim.Native.Nat.{ℕ}
-use Rattle.search.specs.Search.{pick}
 use Rattle.search.proofs.Among.{among-map}
 use Rattle.word.specs.declared.Order.{Order}
 use Rattle.trace.specs.Layout.{Trace, traceFrom}
@@ -14,7 +13,7 @@ use Rattle.pool.specs.Pool.{withPage, withFrames}
 use Rattle.tally.specs.declared.Row.{Row}
 use Rattle.tally.specs.Rows.{row, isEviction}
 use Rattle.replay.specs.Replay.{Played}
-use Rattle.rename.specs.Renamed.{renamedPages, renamedFrame, renamedPool, renamedTrace, renamedBytes, renamedRow, renamedPlayed}
+use Rattle.rename.specs.Renamed.{renamedPages, heldPage, renamedFrame, renamedPool, renamedTrace, renamedBytes, renamedRow, renamedPlayed}
 use Rattle.rename.specs.Sameness.{pagesTogether, Renames, Given}
 use Rattle.rename.specs.Composed.{inTurn, InTurn}
 use Rattle.rename.proofs.Pages.{together-renamed}
@@ -26,7 +25,7 @@ each-twice f g h same l = map-map g f l ∙ map-congr-left {l = l} (λ a _. same
 
 module _ (ρ σ : ℕ → ℕ) where
   -- a page that is renamed or not: in turn, or by both
-  twice : (b : Bool) (page : ℕ) → pick b (σ (pick b (ρ page) page)) (pick b (ρ page) page) ≡ pick b (inTurn ρ σ page) page
+  twice : (b : Bool) (page : ℕ) → heldPage σ b (heldPage ρ b page) ≡ heldPage (inTurn ρ σ) b page
   twice true page = refl
   twice false page = refl
 

@@ -13,7 +13,7 @@ use Rattle.word.specs.declared.Order.{Order}
 use Rattle.trace.specs.Layout.{Trace}
 use Rattle.pool.specs.declared.Frame.{Frame}
 use Rattle.pool.specs.declared.Pool.{Pool}
-use Rattle.rename.specs.Renamed.{renamedPages, renamedFrame, renamedPool, renamedTrace}
+use Rattle.rename.specs.Renamed.{renamedPages, heldPage, renamedFrame, renamedPool, renamedTrace}
 use Rattle.rename.specs.Sameness.{residentPages, pagesTogether}
 use Rattle.rename.proofs.Frames.{AllListed}
 
@@ -26,14 +26,14 @@ residents-listed (fr ∷ fs) zero u =
     ∙ ap (λ (b : Bool). b || among (residentPages fs) (fr .page)) (eq-eqb (fr .page) (fr .page) refl)
 residents-listed (fr ∷ fs) (suc i) u = among-second (pick (fr .used) (fr .page ∷ []) []) (residentPages fs) _ (residents-listed fs i u)
 
--- of a record and a pool
+-- the pages of a record and a pool
 pub page-in : (page : ℕ) (fs : List Frame) → among (page ∷ residentPages fs) page ≡ true
 page-in page fs = among-at (page ∷ residentPages fs) 0 (omega arith)
 
 pub residents-in : (page : ℕ) (fs : List Frame) → AllListed (page ∷ residentPages fs) fs
 residents-in page fs i u = among-second (page ∷ []) (residentPages fs) _ (residents-listed fs i u)
 
--- of a trace and a pool
+-- the pages of a trace and a pool
 module _ (p : Pool) (t : Trace) where
   pub trace-in : (n : ℕ) → n < length (t .pages) → among (pagesTogether p t) (getD (t .pages) n 0) ≡ true
   trace-in n l = among-first (t .pages) (residentPages (p .frames)) (getD (t .pages) n 0) (among-at (t .pages) n l)
@@ -52,10 +52,10 @@ module _ (ρ : ℕ → ℕ) where
   unfolding residentPages
   residents-renamed [] = refl
   residents-renamed (fr ∷ fs) =
-      ap (λ (l : List ℕ). pick (fr .used) (pick (fr .used) (ρ (fr .page)) (fr .page) ∷ []) [] ++ l) (residents-renamed fs)
+      ap (λ (l : List ℕ). pick (fr .used) (heldPage ρ (fr .used) (fr .page) ∷ []) [] ++ l) (residents-renamed fs)
       ∙ go (fr .used)
     where
-      go : (b : Bool) → pick b (pick b (ρ (fr .page)) (fr .page) ∷ []) [] ++ renamedPages ρ (residentPages fs) ≡ renamedPages ρ (pick b (fr .page ∷ []) [] ++ residentPages fs)
+      go : (b : Bool) → pick b (heldPage ρ b (fr .page) ∷ []) [] ++ renamedPages ρ (residentPages fs) ≡ renamedPages ρ (pick b (fr .page ∷ []) [] ++ residentPages fs)
       go true = refl
       go false = refl
 
