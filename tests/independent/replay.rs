@@ -68,33 +68,102 @@ pub struct Trace {
 
 /// The trace in these bytes, or the first of the refusals 1 to 8.
 pub fn check(bytes: &[u8]) -> Result<Trace, u32> {
-    if bytes.len() < HEADER {
-        return Err(1);
-    }
-    let order = match bytes[..4] {
-        [1, 2, 3, 4] => Order::HighFirst,
-        [4, 3, 2, 1] => Order::LowFirst,
-        _ => return Err(2),
-    };
-    let two = |at: usize| order.number(&bytes[at..at + 2]);
-    let four = |at: usize| order.number(&bytes[at..at + 4]);
+    let header = Header::of(bytes)?;
+    header.check_length(bytes.len())?;
+    header.check_zeros()?;
+    let records = records(&bytes[HEADER..], header.order)?;
+    header.check_writes(&records)?;
+    let settings = header.settings()?;
+    Ok(Trace { settings, records })
+}
 
-    if two(4) != 1 {
-        return Err(3);
+/// A header and the order of the numbers in it.
+struct Header<'a> {
+    bytes: &'a [u8],
+    order: Order,
+}
+
+impl Header<'_> {
+    /// The refusals 1 to 3: a header's bytes, a known mark, edition 1.
+    fn of(bytes: &[u8]) -> Result<Header<'_>, u32> {
+        let bytes = bytes.get(..HEADER).ok_or(1u32)?;
+        let order = match bytes[..4] {
+            [1, 2, 3, 4] => Order::HighFirst,
+            [4, 3, 2, 1] => Order::LowFirst,
+            _ => return Err(2),
+        };
+        let header = Header { bytes, order };
+        match header.number(4, 2) {
+            1 => Ok(header),
+            _ => Err(3),
+        }
     }
-    let n = four(8);
-    if n > MOST_RECORDS {
-        return Err(4);
+
+    /// The number at a place of the paper's table, so many bytes wide.
+    fn number(&self, at: usize, width: usize) -> u32 {
+        self.order.number(&self.bytes[at..at + width])
     }
-    let length = HEADER + RECORD * n as usize;
-    if four(12) as usize != HEADER || four(20) as usize != length || bytes.len() != length {
-        return Err(5);
+
+    /// The refusals 4 and 5: not too many records, and the file ends behind them.
+    fn check_length(&self, actual: usize) -> Result<(), u32> {
+        let n = self.number(8, 4);
+        if n > MOST_RECORDS {
+            return Err(4);
+        }
+        let length = HEADER + RECORD * n as usize;
+        let [offset, stated] = [12, 20].map(|at| self.number(at, 4) as usize);
+        if offset != HEADER || stated != length || actual != length {
+            return Err(5);
+        }
+        Ok(())
     }
-    if two(6) != 0 || four(44) != 0 {
-        return Err(6);
+
+    /// Refusal 6, where the header gives it.
+    fn check_zeros(&self) -> Result<(), u32> {
+        if self.number(6, 2) != 0 || self.number(44, 4) != 0 {
+            return Err(6);
+        }
+        Ok(())
     }
-    let mut records = Vec::with_capacity(n as usize);
-    for record in bytes[HEADER..].chunks_exact(RECORD) {
+
+    /// Refusal 7.
+    fn check_writes(&self, records: &[(u32, Kind)]) -> Result<(), u32> {
+        let writes = records.iter().filter(|(_, kind)| *kind == Kind::Write);
+        if self.number(16, 4) as usize != writes.count() {
+            return Err(7);
+        }
+        Ok(())
+    }
+
+    /// The settings, or refusal 8; their ranges are the same under every rule.
+    fn settings(&self) -> Result<Settings, u32> {
+        let rule = match self.number(24, 2) {
+            0 => Rule::Lru,
+            1 => Rule::Clock,
+            2 => Rule::Watt,
+            _ => return Err(8),
+        };
+        Ok(Settings {
+            rule,
+            frames: within(self.number(26, 2), 1..=128)?,
+            batch: within(self.number(28, 2), 1..=16)?,
+            cap: within(self.number(30, 2), 1..=7)?,
+            sample: within(self.number(32, 2), 1..=16)?,
+            weight: within(self.number(34, 2), 0..=16)?,
+            epoch: within(self.number(36, 4), 1..=50_000)?,
+            seed: self.number(40, 4),
+        })
+    }
+}
+
+fn within(number: u32, range: RangeInclusive<u32>) -> Result<u32, u32> {
+    range.contains(&number).then_some(number).ok_or(8)
+}
+
+/// The records behind a header, or refusal 6.
+fn records(bytes: &[u8], order: Order) -> Result<Vec<(u32, Kind)>, u32> {
+    let mut records = Vec::with_capacity(bytes.len() / RECORD);
+    for record in bytes.chunks_exact(RECORD) {
         let kind = match order.number(&record[4..6]) {
             0 => Kind::Read,
             1 => Kind::Write,
@@ -107,30 +176,7 @@ pub fn check(bytes: &[u8]) -> Result<Trace, u32> {
         }
         records.push((order.number(&record[0..4]), kind));
     }
-    let writes = records.iter().filter(|(_, kind)| *kind == Kind::Write);
-    if four(16) as usize != writes.count() {
-        return Err(7);
-    }
-    let settings = Settings {
-        rule: match two(24) {
-            0 => Rule::Lru,
-            1 => Rule::Clock,
-            2 => Rule::Watt,
-            _ => return Err(8),
-        },
-        frames: within(two(26), 1..=128)?,
-        batch: within(two(28), 1..=16)?,
-        cap: within(two(30), 1..=7)?,
-        sample: within(two(32), 1..=16)?,
-        weight: within(two(34), 0..=16)?,
-        epoch: within(four(36), 1..=50_000)?,
-        seed: four(40),
-    };
-    Ok(Trace { settings, records })
-}
-
-fn within(number: u32, range: RangeInclusive<u32>) -> Result<u32, u32> {
-    range.contains(&number).then_some(number).ok_or(8)
+    Ok(records)
 }
 
 // ---------------------------------------------------------------- the value

@@ -303,78 +303,105 @@ fn ties_are_not_broken_by_page() {
 
 // ------------------------------------------------------------- damaged traces
 
+/// A good trace of four records, 80 bytes, and then damaged.
+fn damaged(order: Order, damage: &dyn Fn(&mut Vec<u8>)) -> Vec<u8> {
+    let records = [(1, R), (2, W), (3, P), (1, U)];
+    let mut bytes = encode(&settings(Rule::Lru, 2), order, &records);
+    damage(&mut bytes);
+    bytes
+}
+
+/// The refusal of the trace so damaged, 0 for none; its listing says the same.
+fn refusal(order: Order, damage: &dyn Fn(&mut Vec<u8>)) -> u32 {
+    let bytes = damaged(order, damage);
+    let number = check(&bytes).err().unwrap_or(0);
+    assert_eq!(
+        listed(&bytes) == format!("trace refused {number}\n"),
+        number > 0
+    );
+    number
+}
+
+/// The refusal with another number in one field.
+fn refusal_with(order: Order, at: usize, width: usize, number: u32) -> u32 {
+    refusal(order, &|bytes| put(bytes, order, at, width, number))
+}
+
 #[test]
-fn trace_refusals() {
+fn refusals_1_to_3() {
     for order in BOTH {
-        let records = [(1, R), (2, W), (3, P), (1, U)];
-        let plain = encode(&settings(Rule::Lru, 2), order, &records);
-        let refusal = |damage: &dyn Fn(&mut Vec<u8>)| {
-            let mut bytes = plain.clone();
-            damage(&mut bytes);
-            let number = check(&bytes).err().unwrap_or(0);
-            assert_eq!(
-                listed(&bytes) == format!("trace refused {number}\n"),
-                number > 0
-            );
-            number
-        };
-        let with = |at: usize, width: usize, number: u32| {
-            refusal(&|bytes| put(bytes, order, at, width, number))
-        };
-        assert_eq!(refusal(&|_| {}), 0);
-        assert_eq!(refusal(&|bytes| bytes.clear()), 1);
-        assert_eq!(refusal(&|bytes| bytes.truncate(47)), 1);
+        assert_eq!(refusal(order, &|_| {}), 0);
+        assert_eq!(refusal(order, &|bytes| bytes.clear()), 1);
+        assert_eq!(refusal(order, &|bytes| bytes.truncate(47)), 1);
         for at in 0..4 {
-            assert_eq!(refusal(&|bytes| bytes[at] ^= 8), 2);
+            assert_eq!(refusal(order, &|bytes| bytes[at] ^= 8), 2);
         }
-        assert_eq!(refusal(&|bytes| bytes[..4].reverse()), 3);
+        assert_eq!(refusal(order, &|bytes| bytes[..4].reverse()), 3);
         for edition in [0, 2, 256] {
-            assert_eq!(with(4, 2, edition), 3);
+            assert_eq!(refusal_with(order, 4, 2, edition), 3);
         }
+    }
+}
+
+#[test]
+fn refusals_4_and_5() {
+    for order in BOTH {
         for n in [8_001, 0x2000_0004, u32::MAX] {
-            assert_eq!(with(8, 4, n), 4);
+            assert_eq!(refusal_with(order, 8, 4, n), 4);
         }
         for n in [0, 3, 5, 8_000] {
-            assert_eq!(with(8, 4, n), 5);
+            assert_eq!(refusal_with(order, 8, 4, n), 5);
         }
         for offset in [0, 47, 49] {
-            assert_eq!(with(12, 4, offset), 5);
+            assert_eq!(refusal_with(order, 12, 4, offset), 5);
         }
         for length in [0, 79, 81] {
-            assert_eq!(with(20, 4, length), 5);
+            assert_eq!(refusal_with(order, 20, 4, length), 5);
         }
         for length in [48, 79, 81] {
-            assert_eq!(refusal(&|bytes| bytes.resize(length, 0)), 5);
+            assert_eq!(refusal(order, &|bytes| bytes.resize(length, 0)), 5);
         }
+    }
+}
+
+#[test]
+fn refusals_6_to_8() {
+    for order in BOTH {
         for at in [6, 7, 44, 45, 46, 47, 54, 55, 78, 79] {
-            assert_eq!(with(at, 1, 1), 6);
+            assert_eq!(refusal_with(order, at, 1, 1), 6);
         }
         for kind in [4, 256, 65_535] {
-            assert_eq!(with(52, 2, kind), 6);
+            assert_eq!(refusal_with(order, 52, 2, kind), 6);
         }
         for writes in [0, 2] {
-            assert_eq!(with(16, 4, writes), 7);
+            assert_eq!(refusal_with(order, 16, 4, writes), 7);
         }
         for frames in [0, 129] {
-            assert_eq!(with(26, 2, frames), 8);
+            assert_eq!(refusal_with(order, 26, 2, frames), 8);
         }
-        // Of several, the lowest number.
-        let (mut bytes, mut lowest) = (plain.clone(), 8);
-        for (at, number) in [
-            (26, 129),
-            (16, 9),
-            (44, 1),
-            (20, 0),
-            (8, 8_001),
-            (4, 2),
-            (0, 0),
-        ] {
-            let width = if [4, 26].contains(&at) { 2 } else { 4 };
+    }
+}
+
+#[test]
+fn of_several_refusals_the_lowest() {
+    // Place, width and number of a field, each for a lower refusal.
+    let fields = [
+        (26, 2, 129),
+        (16, 4, 9),
+        (44, 4, 1),
+        (20, 4, 0),
+        (8, 4, 8_001),
+        (4, 2, 2),
+        (0, 4, 0),
+    ];
+    for order in BOTH {
+        let (mut bytes, mut lowest) = (damaged(order, &|_| {}), 8);
+        for (at, width, number) in fields {
             put(&mut bytes, order, at, width, number);
             assert_eq!(check(&bytes), Err(lowest));
             lowest -= 1;
         }
-        assert_eq!(check(&bytes[..47]), Err(lowest));
+        assert_eq!((lowest, check(&bytes[..47])), (1, Err(1)));
     }
 }
 
@@ -761,6 +788,13 @@ fn sound(pool: &Pool) -> bool {
         })
 }
 
+/// Whether the next draws, as many as there are for one victim, name pinned frames
+/// alone.
+fn every_drawn_pinned(pool: &Pool) -> bool {
+    let mut drawing = pool.clone();
+    (0..pool.settings.sample).all(|_| pool.frames[drawing.draw()].pins > 0)
+}
+
 /// What is rare and must come up among the traces.
 fn rare(before: &Pool, after: &Pool, step: &Step) -> [(&'static str, bool); 7] {
     let settings = before.settings;
@@ -771,8 +805,6 @@ fn rare(before: &Pool, after: &Pool, step: &Step) -> [(&'static str, bool); 7] {
         Err(_) => (Frame::default(), &[][..]),
     };
     let evicted = [2, 3].contains(&row(step)[0]);
-    let mut drawing = before.clone();
-    let mut drawn_pinned = || before.frames[drawing.draw()].pins > 0;
     let value = |page: u32| {
         let mut frames = before.frames.iter();
         let frame = frames.find(|frame| frame.page == page)?;
@@ -783,7 +815,7 @@ fn rare(before: &Pool, after: &Pool, step: &Step) -> [(&'static str, bool); 7] {
     [
         (
             "every drawn frame pinned",
-            watt && evicted && (0..settings.sample).all(|_| drawn_pinned()),
+            watt && evicted && every_drawn_pinned(before),
         ),
         (
             "both logs full",

@@ -376,46 +376,70 @@ fn put_off_by_one(random: &mut Random, bytes: &mut [u8], order: Order, at: usize
     put(bytes, order, at, 4, number);
 }
 
+/// One record too many, and nothing else amiss.
+fn put_a_record_too_many(bytes: &mut Vec<u8>, order: Order) {
+    let length = HEADER + RECORD * (MOST_RECORDS as usize + 1);
+    bytes.resize(length, 0);
+    put(bytes, order, 8, 4, MOST_RECORDS + 1);
+    put(bytes, order, 20, 4, length as u32);
+}
+
+fn flip_a_bit(random: &mut Random, bytes: &mut [u8]) {
+    bytes[random.place(bytes.len())] ^= 1 << random.between(0, 7);
+}
+
 /// Damages a trace in one of the ways by turns, a field with each of its
 /// numbers by turns.
 fn damage(random: &mut Random, bytes: &mut Vec<u8>, order: Order, turn: usize) {
-    let length = bytes.len();
-    if length < HEADER {
+    if bytes.len() < HEADER {
         return;
     }
     let way = turn % WAYS;
-    if let Some(&(mut at, width, wrong)) = WRONG_FIELDS.get(way) {
-        let records = (length - HEADER) / RECORD;
-        if at > HEADER && records > 0 {
-            at += RECORD * random.place(records);
+    match WRONG_FIELDS.get(way) {
+        Some(&(at, width, wrong)) => {
+            let number = wrong[turn / WAYS % wrong.len()];
+            damage_field(random, bytes, order, (at, width, number));
         }
-        if at + width <= length {
-            put(bytes, order, at, width, wrong[turn / WAYS % wrong.len()]);
-        }
-        return;
+        None => damage_otherwise(random, bytes, order, way - WRONG_FIELDS.len()),
     }
-    match way - WRONG_FIELDS.len() {
+}
+
+/// Puts a number into a field; into that of any record, where it is a record's.
+fn damage_field(
+    random: &mut Random,
+    bytes: &mut [u8],
+    order: Order,
+    (mut at, width, number): (usize, usize, u32),
+) {
+    let records = (bytes.len() - HEADER) / RECORD;
+    if at > HEADER && records > 0 {
+        at += RECORD * random.place(records);
+    }
+    if at + width <= bytes.len() {
+        put(bytes, order, at, width, number);
+    }
+}
+
+/// The ways other than a field's wrong number: the length, the mark, and counts
+/// that are wrong only beside the rest.
+fn damage_otherwise(random: &mut Random, bytes: &mut Vec<u8>, order: Order, way: usize) {
+    let length = bytes.len();
+    match way {
         0 => bytes.truncate(random.one_of(&[0, 1, 4, 24, 47])),
         1 => bytes.truncate(random.place(length)),
         2 => bytes.truncate(random.one_of(&[HEADER, length - 1, length - RECORD])),
         3 => bytes.resize(length + random.one_of(&[1, 2, 7, 8, 16]), 0),
-        4 => bytes[random.place(4)] ^= 1 << random.between(0, 7),
+        4 => flip_a_bit(random, &mut bytes[..4]),
         5 => bytes[..4].reverse(),
         6 => put_off_by_one(random, bytes, order, 16),
         7 => {
             let at = random.one_of(&[8, 20]);
             put_off_by_one(random, bytes, order, at);
         }
-        8 => {
-            // One record too many, and nothing else amiss.
-            let length = HEADER + RECORD * (MOST_RECORDS as usize + 1);
-            bytes.resize(length, 0);
-            put(bytes, order, 8, 4, MOST_RECORDS + 1);
-            put(bytes, order, 20, 4, length as u32);
-        }
+        8 => put_a_record_too_many(bytes, order),
         _ => {
             for _ in 0..random.between(1, 3) {
-                bytes[random.place(length)] ^= 1 << random.between(0, 7);
+                flip_a_bit(random, bytes);
             }
         }
     }
@@ -528,47 +552,16 @@ pub fn series(seed: u64) -> Vec<u8> {
     let frames = settings.frames;
     // Few pins, none where they would stop a single frame for long.
     let most_pins = if frames == 1 { 0 } else { 2 };
-    let mut source = Source::new(random, frames, most_pins);
-    let mut items: Vec<Vec<u8>> = Vec::new();
-
-    // What may come before the start that counts.
-    if random.chance(30) {
-        items.push(bad_trace(random, &settings));
-    }
-    if random.chance(30) {
-        items.push(good_trace(random, &mut source, &settings, 300));
-        items.push(Vec::new());
-        source.pinned.clear();
-    }
+    let source = &mut Source::new(random, frames, most_pins);
+    let mut items = items_before(random, source, &settings);
     // A page that keeps 255 pins until k has reached its end.
     let held = (seed & 1 == 0 && frames > 1).then(|| random.any());
     for part in 0..10 {
-        let n = match part {
-            3 => random.between(0, 60),
-            _ => random.between(7_000, 8_000),
-        };
-        items.push(good_trace(random, &mut source, &settings, n));
-        let records = match (held, part) {
-            (Some(page), 4) => vec![(page, PIN); 260],
-            (Some(page), 8) => vec![(page, PIN), (page, WRITE), (page, UNPIN), (page, PIN)],
-            _ => Vec::new(),
-        };
-        if !records.is_empty() {
-            items.push(encode(&settings, some_order(random), &records));
-        }
-        if random.chance(20) {
-            items.push(bad_trace(random, &settings));
-        }
-        items.push(other_trace(random, &settings, part));
+        items.extend(items_of_part(random, source, &settings, part, held));
     }
     if random.chance(50) {
-        items.extend(vec![Vec::new(); random.one_of(&[1, 1, 2])]);
-        source.pinned.clear();
-        let settings = some_settings(random);
-        items.push(good_trace(random, &mut source, &settings, 500));
-        items.push(good_trace(random, &mut source, &settings, 200));
+        items.extend(items_anew(random, source));
     }
-
     let mut bytes = joined(&items);
     if random.chance(20) {
         // The input ends inside an item.
@@ -577,32 +570,65 @@ pub fn series(seed: u64) -> Vec<u8> {
     bytes
 }
 
+/// What may come before the start that counts.
+fn items_before(random: &mut Random, source: &mut Source, settings: &Settings) -> Vec<Vec<u8>> {
+    let mut items = Vec::new();
+    if random.chance(30) {
+        items.push(bad_trace(random, settings));
+    }
+    if random.chance(30) {
+        items.push(good_trace(random, source, settings, 300));
+        items.push(Vec::new());
+        source.pinned.clear();
+    }
+    items
+}
+
+/// One of the ten traces, what is done in this part to the page that is held, and
+/// refused ones.
+fn items_of_part(
+    random: &mut Random,
+    source: &mut Source,
+    settings: &Settings,
+    part: u32,
+    held: Option<u32>,
+) -> Vec<Vec<u8>> {
+    let n = match part {
+        3 => random.between(0, 60),
+        _ => random.between(7_000, 8_000),
+    };
+    let mut items = vec![good_trace(random, source, settings, n)];
+    let records = match (held, part) {
+        (Some(page), 4) => vec![(page, PIN); 260],
+        (Some(page), 8) => vec![(page, PIN), (page, WRITE), (page, UNPIN), (page, PIN)],
+        _ => Vec::new(),
+    };
+    if !records.is_empty() {
+        items.push(encode(settings, some_order(random), &records));
+    }
+    if random.chance(20) {
+        items.push(bad_trace(random, settings));
+    }
+    items.push(other_trace(random, settings, part));
+    items
+}
+
+/// A start anew, under other settings.
+fn items_anew(random: &mut Random, source: &mut Source) -> Vec<Vec<u8>> {
+    let mut items = vec![Vec::new(); random.one_of(&[1, 1, 2])];
+    source.pinned.clear();
+    let settings = some_settings(random);
+    items.push(good_trace(random, source, &settings, 500));
+    items.push(good_trace(random, source, &settings, 200));
+    items
+}
+
 /// The stored series, short because programs replay it under emulation: the
 /// paper's example; for each rule a trace with every outcome 0 to 4, 110 and
 /// 111; then one pool with which three traces go on, and between them one of
 /// other settings and one damaged. The seeds are chosen for these outcomes.
 pub fn stored() -> Vec<u8> {
-    let small = |rule: Rule, frames: u32, batch: u32| Settings {
-        rule,
-        frames,
-        batch,
-        cap: 2,
-        sample: 3,
-        weight: 2,
-        epoch: 7,
-        seed: 4_000_000_000,
-    };
-    let example = Settings {
-        cap: 1,
-        sample: 1,
-        weight: 0,
-        epoch: 1,
-        seed: 0,
-        ..small(Rule::Lru, 2, 1)
-    };
-    let records = [(7, READ), (8, WRITE), (7, READ), (9, READ), (8, READ)];
-    let mut items = vec![encode(&example, Order::HighFirst, &records)];
-
+    let mut items = vec![example()];
     for (rule, frames, batch, seed) in [
         (Rule::Lru, 3, 2, 42),
         (Rule::Clock, 5, 3, 611),
@@ -613,17 +639,50 @@ pub fn stored() -> Vec<u8> {
         items.push(Vec::new());
         items.push(good_trace(random, source, &small(rule, frames, batch), 120));
     }
+    items.push(Vec::new());
+    items.extend(stored_on_one_pool());
+    joined(&items)
+}
 
+/// Settings for a stored trace.
+fn small(rule: Rule, frames: u32, batch: u32) -> Settings {
+    Settings {
+        rule,
+        frames,
+        batch,
+        cap: 2,
+        sample: 3,
+        weight: 2,
+        epoch: 7,
+        seed: 4_000_000_000,
+    }
+}
+
+/// The paper's example, of which it prints the sheet.
+fn example() -> Vec<u8> {
+    let settings = Settings {
+        cap: 1,
+        sample: 1,
+        weight: 0,
+        epoch: 1,
+        seed: 0,
+        ..small(Rule::Lru, 2, 1)
+    };
+    let records = [(7, READ), (8, WRITE), (7, READ), (9, READ), (8, READ)];
+    encode(&settings, Order::HighFirst, &records)
+}
+
+fn stored_on_one_pool() -> [Vec<u8>; 5] {
     let random = &mut Random::new(67);
     let settings = small(Rule::Watt, 16, 5);
     let source = &mut Source::new(random, settings.frames, 12);
-    items.push(Vec::new());
-    items.push(good_trace(random, source, &settings, 100));
-    items.push(good_trace(random, source, &settings, 100));
-    items.push(other_trace(random, &settings, 7));
-    items.push(bad_trace(random, &settings));
-    items.push(good_trace(random, source, &settings, 60));
-    joined(&items)
+    [
+        good_trace(random, source, &settings, 100),
+        good_trace(random, source, &settings, 100),
+        other_trace(random, &settings, 7),
+        bad_trace(random, &settings),
+        good_trace(random, source, &settings, 60),
+    ]
 }
 
 /// A trace for timing: 8,000 records, half of them writes, over 450 pages of
