@@ -3,6 +3,8 @@
 //! and compares its listings and sheets with those of given programs, then once
 //! more with the pages renamed.
 
+#[cfg(test)]
+mod edges;
 mod renaming;
 mod replay;
 #[cfg(test)]

@@ -1,6 +1,5 @@
-//! The paper's examples and edges, a damaged trace for each refusal, the
-//! renaming of pages, and the soundness of the pool after every step of some
-//! generated traces.
+//! The paper's examples, a damaged trace for each refusal, the renaming of pages,
+//! and the soundness of the pool after every step of some generated traces.
 
 use crate::renaming::*;
 use crate::replay::*;
@@ -8,15 +7,15 @@ use crate::traces::{self, encode, put, Random};
 use crate::{first_difference, list_series, list_trace, never_changed, renamed_alike, Made};
 use std::collections::{BTreeMap, BTreeSet};
 
-const BOTH: [Order; 2] = [Order::HighFirst, Order::LowFirst];
+pub const BOTH: [Order; 2] = [Order::HighFirst, Order::LowFirst];
 
 // The kinds.
-const R: u32 = 0;
-const W: u32 = 1;
-const P: u32 = 2;
-const U: u32 = 3;
+pub const R: u32 = 0;
+pub const W: u32 = 1;
+pub const P: u32 = 2;
+pub const U: u32 = 3;
 
-fn settings(rule: Rule, frames: u32) -> Settings {
+pub fn settings(rule: Rule, frames: u32) -> Settings {
     Settings {
         rule,
         frames,
@@ -29,12 +28,12 @@ fn settings(rule: Rule, frames: u32) -> Settings {
     }
 }
 
-fn reads(pages: &[u32]) -> Vec<(u32, u32)> {
+pub fn reads(pages: &[u32]) -> Vec<(u32, u32)> {
     pages.iter().map(|&page| (page, R)).collect()
 }
 
 /// The rows, pages written, pool and tally of these records in either order.
-fn run(settings: Settings, records: &[(u32, u32)]) -> (Vec<[u32; 4]>, Vec<u32>, Pool, Tally) {
+pub fn run(settings: Settings, records: &[(u32, u32)]) -> (Vec<[u32; 4]>, Vec<u32>, Pool, Tally) {
     let [high, low] = BOTH.map(|order| {
         let mut state = None;
         let replayed = go_on(&mut state, &encode(&settings, order, records)).unwrap();
@@ -130,6 +129,8 @@ fn p12_orders() {
     assert_eq!(Order::LowFirst.number(&[0, 0, 0, 1]), 16_777_216);
 }
 
+const EXAMPLE: [(u32, u32); 5] = [(7, R), (8, W), (7, R), (9, R), (8, R)];
+
 #[test]
 fn printed_example() {
     let expected = "\
@@ -152,153 +153,31 @@ batches 1
 written 1
 refused 0
 ";
-    let records = [(7, R), (8, W), (7, R), (9, R), (8, R)];
     for order in BOTH {
-        let bytes = encode(&settings(Rule::Lru, 2), order, &records);
+        let bytes = encode(&settings(Rule::Lru, 2), order, &EXAMPLE);
         assert_eq!(listed(&bytes), expected);
     }
 }
 
-// ------------------------------------------------------------------ the edges
-
-#[test]
-fn record_counts() {
-    let plain = settings(Rule::Lru, 1);
-    let most = encode(&plain, Order::LowFirst, &reads(&[5; 8_000]));
-    assert_eq!(check(&most).map(|trace| trace.records.len()), Ok(8_000));
-    let more = encode(&plain, Order::LowFirst, &reads(&[5; 8_001]));
-    assert_eq!(check(&more), Err(4));
-    let none = listed(&encode(&plain, Order::HighFirst, &[]));
-    assert!(none.starts_with("rows 0\nwritten 0\npool 0 0 0\nframes 0\nhits 0\n"));
+fn sheet(bytes: &[u8]) -> String {
+    let [_, sheet] = Made::Trace.printed(bytes, &mut |_| {});
+    sheet
 }
 
 #[test]
-fn settings_edges() {
-    // Offset, width, least, greatest.
-    let ranges = [
-        (24, 2, 0, 2),
-        (26, 2, 1, 128),
-        (28, 2, 1, 16),
-        (30, 2, 1, 7),
-        (32, 2, 1, 16),
-        (34, 2, 0, 16),
-        (36, 4, 1, 50_000),
-    ];
+fn printed_sheet() {
+    let counts = "hits 1\nmisses 4\nevictions 2\nbatches 1\nwritten 1\nrefused 0\n";
     for order in BOTH {
-        let plain = encode(&settings(Rule::Lru, 2), order, &reads(&[1]));
-        let refusal = |at: usize, width: usize, number: u32| {
-            let mut bytes = plain.clone();
-            put(&mut bytes, order, at, width, number);
-            check(&bytes).err()
-        };
-        for (at, width, least, greatest) in ranges {
-            assert_eq!(refusal(at, width, least), None);
-            assert_eq!(refusal(at, width, greatest), None);
-            assert_eq!(refusal(at, width, greatest + 1), Some(8));
-            if least > 0 {
-                assert_eq!(refusal(at, width, least - 1), Some(8));
-            }
-        }
-        assert_eq!(refusal(40, 4, u32::MAX), None);
+        let bytes = encode(&settings(Rule::Lru, 2), order, &EXAMPLE);
+        let expected = format!("policy lru\nframes 2\nrecords 5\n{counts}");
+        assert_eq!(sheet(&bytes), expected);
     }
-}
-
-#[test]
-fn most_references() {
-    let mut pool = Pool::fresh(settings(Rule::Lru, 1));
-    for _ in 0..49_999 {
-        assert!(pool.step(3, Kind::Read).is_ok());
+    for (rule, name) in [(Rule::Clock, "clock"), (Rule::Watt, "watt")] {
+        let bytes = encode(&settings(rule, 128), Order::LowFirst, &[]);
+        let first = format!("policy {name}\nframes 128\nrecords 0\nhits 0\n");
+        assert!(sheet(&bytes).starts_with(&first));
     }
-    assert_eq!(pool.k, 49_999);
-    let kinds = [
-        (Kind::Pin, 0),
-        (Kind::Pin, 109),
-        (Kind::Read, 109),
-        (Kind::Write, 109),
-        (Kind::Unpin, 4),
-        (Kind::Unpin, 111),
-    ];
-    for (kind, outcome) in kinds {
-        assert_eq!(row(&pool.step(3, kind)), [outcome, 0, 0, 0]);
-    }
-    assert_eq!(pool.k, 50_000);
-    assert_eq!((pool.frames[0].last, pool.frames[0].dirty), (49_999, false));
-    pool.frames[0].pins = 255;
-    assert_eq!(pool.step(3, Kind::Pin), Err(9));
-}
-
-#[test]
-fn most_pins() {
-    let mut records = vec![(9, P); 256];
-    records.extend([(9, R), (9, U), (9, P), (8, U), (9, W)]);
-    let (rows, _, pool, tally) = run(settings(Rule::Clock, 2), &records);
-    let outcomes: Vec<u32> = rows[254..].iter().map(|row| row[0]).collect();
-    assert_eq!(outcomes, [0, 112, 0, 4, 0, 111, 0]);
-    assert_eq!((pool.frames[0].pins, pool.k, tally.refused), (255, 258, 2));
-}
-
-#[test]
-fn drawn_frames_pinned() {
-    // The one draw names frame 1, which is pinned; then all frames count.
-    let records = [(1, R), (2, P), (3, R), (4, R), (5, R)];
-    let (rows, _, pool, _) = run(settings(Rule::Watt, 4), &records);
-    assert_eq!(rows[4], [2, 0, 1, 0]);
-    assert_eq!(pool.sampler, 2_654_435_769);
-}
-
-#[test]
-fn sweep_passes_pinned() {
-    let (rows, _, pool, _) = run(settings(Rule::Clock, 2), &[(1, P), (2, R), (3, R)]);
-    assert_eq!((rows[2], pool.hand), ([2, 1, 2, 0], 0));
-    assert_eq!(pool.frames[0].count, 1);
-}
-
-#[test]
-fn batch_orders() {
-    let written = |rule: Rule, more: &[(u32, u32)]| {
-        let settings = Settings {
-            batch: 3,
-            cap: 3,
-            ..settings(rule, 3)
-        };
-        let mut records = vec![(9, W), (8, W), (7, W)];
-        records.extend(more);
-        records.push((6, R));
-        run(settings, &records).1
-    };
-    // The least last step; a pinned frame stays behind.
-    assert_eq!(written(Rule::Lru, &[(8, R)]), [9, 7, 8]);
-    assert_eq!(written(Rule::Lru, &[(8, P)]), [9, 7]);
-    // The counts 2 1 1 become 0 0 0, frame 1 leaves, the hand is at frame 2.
-    assert_eq!(written(Rule::Clock, &[(9, R)]), [8, 7, 9]);
-    // The counts 1 3 1 become 0 2 0, frame 0 leaves, the hand is at frame 1.
-    assert_eq!(written(Rule::Clock, &[(8, R), (8, R)]), [9, 7, 8]);
-}
-
-#[test]
-fn ties_are_not_broken_by_page() {
-    let evicted = |rule: Rule, [a, b, c, d]: [u32; 4]| {
-        let settings = Settings {
-            batch: 4,
-            cap: 2,
-            sample: 16,
-            epoch: 100,
-            ..settings(rule, 4)
-        };
-        let records = [(a, W), (b, W), (c, W), (d, W), (a, R), (9, R)];
-        let (rows, written, ..) = run(settings, &records);
-        (rows[5], written)
-    };
-    for pages in [[1, 2, 3, 4], [4, 3, 2, 1]] {
-        let [a, b, c, d] = pages;
-        // Every value is the same, and the frame decides.
-        assert_eq!(evicted(Rule::Watt, pages), ([3, 0, a, 4], vec![a, b, c, d]));
-        // The counts 2 1 1 1 become 0 0 0 0, and the distance from frame 2 decides.
-        assert_eq!(
-            evicted(Rule::Clock, pages),
-            ([3, 1, b, 4], vec![b, c, d, a])
-        );
-    }
+    assert_eq!(sheet(&[7; 48]), "trace refused 2\n");
 }
 
 // ------------------------------------------------------------- damaged traces
@@ -437,6 +316,32 @@ fn series_rules() {
         listing(1, "1 0 1", "0 : 0", 0),
     ];
     assert_eq!(list_series(&bytes, &mut |_| {}), expected.concat());
+}
+
+#[test]
+fn other_settings_are_refused() {
+    let plain = settings(Rule::Lru, 2);
+    let mut others = [plain; 8];
+    others[0].rule = Rule::Clock;
+    others[1].frames = 3;
+    others[2].batch = 2;
+    others[3].cap = 2;
+    others[4].sample = 2;
+    others[5].weight = 1;
+    others[6].epoch = 2;
+    others[7].seed = 1;
+    let item = |settings: &Settings| encode(settings, Order::LowFirst, &[(4, W)]);
+    let mut state = None;
+    assert!(go_on(&mut state, &item(&plain)).is_ok());
+    let before = state.clone();
+    for other in others {
+        assert_eq!(go_on(&mut state, &item(&other)).err(), Some(15));
+        // The checks of the trace come before.
+        let mut bytes = item(&other);
+        put(&mut bytes, Order::LowFirst, 16, 4, 2);
+        assert_eq!(go_on(&mut state, &bytes).err(), Some(7));
+    }
+    assert_eq!(state, before);
 }
 
 #[test]
