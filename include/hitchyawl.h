@@ -1,14 +1,18 @@
 /* Hitchyawl for a C transport: check a trace of edition 1, put it into the other byte order, and
  * replay it to counts.
  *
- * The calls are exported by the archive of the crate `host`. They keep no state, allocate nothing,
- * and may run in several threads at once. hitchyawl_counts may need 256 KiB of stack, the others
- * hardly any. While a call runs, nothing else may write to its buffers, neither another thread nor
- * another process that maps the same memory, and nothing may read `out`.
+ * The calls are exported by the archive of the crate `host`; "For C" in the README says how to build
+ * and link it. It needs memcpy and memset. The calls keep no state, allocate nothing, and may run in
+ * several threads at once. hitchyawl_counts may need 256 KiB of stack, the others hardly any. While a
+ * call runs, nothing else may write to its buffers, neither another thread nor another process that
+ * maps the same memory, and nothing may read `out`.
  *
- * A buffer is a pointer and its length in bytes. The memory has to be there in full, may stand at
- * any address (nothing is asked of its alignment), and the two buffers of a call must not overlap.
- * Where the length is 0 the pointer may be anything, a null pointer too: it is not followed.
+ * A buffer is a pointer and its length in bytes. The memory has to be there in full, and may stand at
+ * any address (nothing is asked of its alignment). The two buffers of a call must not overlap, so a
+ * trace cannot be converted in place. Where the length is 0 the pointer may be anything, a null pointer
+ * too: it is not followed.
+ *
+ * Byte 0 of an accepted trace is 1 for high byte first, 4 for low.
  */
 #ifndef HITCHYAWL_H
 #define HITCHYAWL_H
@@ -16,12 +20,15 @@
 #include <stddef.h>
 #include <stdint.h>
 
+#define HITCHYAWL_COUNTS_BYTES 24       /* what hitchyawl_counts stores */
+#define HITCHYAWL_TRACE_BYTES_MAX 64048 /* the longest trace, 8,000 records */
+
 #ifdef __cplusplus
 extern "C" {
 #endif
 
-/* The numbered refusals. The calls below give 1 to 8, and those that store 13 too; the others are
- * given elsewhere by the bench and stand here so that each number has one name. */
+/* The numbered refusals. hitchyawl_check returns 0 to 8; the other two return 13 as well. 9 to 12 are
+ * given to single records, 14 and 15 by calls that take a pool. */
 enum hitchyawl_refusal {
     HITCHYAWL_ACCEPTED = 0,
     HITCHYAWL_TOO_SHORT = 1,             /* under 48 bytes */
@@ -59,9 +66,9 @@ uint32_t hitchyawl_convert(const uint8_t *bytes, size_t length, uint8_t *out, si
  *
  * Returns 0 with six counts in the first 24 bytes of `out`, 4 bytes each and in the trace's own byte
  * order: hits, misses, evictions, batches, pages written, refused records; the bytes beyond them
- * keep their contents. A refused record (10 to 12) is counted, and replay goes on. Else returns the
- * first of the refusals 1 to 8 that fits, then 13 where `room`, the length of `out`, is less than
- * 24; a refused call stores nothing. */
+ * keep their contents. A refused record (10 to 12) is counted in the sixth count only, and replay goes
+ * on. Else returns the first of the refusals 1 to 8 that fits, then 13 where `room`, the length of
+ * `out`, is less than 24; a refused call stores nothing. */
 uint32_t hitchyawl_counts(const uint8_t *bytes, size_t length, uint8_t *out, size_t room);
 
 #ifdef __cplusplus
