@@ -15,14 +15,13 @@ use Rattle.search.specs.declared.Found.{Found}
 use Rattle.search.specs.Search.{onFound, leastBelow, among}
 use Rattle.search.proofs.Least.{least-sound, least-cong}
 use Rattle.search.proofs.Among.{among-snoc}
-use Rattle.worth.specs.declared.Fraction.{Fraction}
 use Rattle.worth.specs.Value.{lessFraction}
 use Rattle.pool.specs.declared.Frame.{Frame}
 use Rattle.pool.specs.Pool.{frameAt}
+use Rattle.table.specs.Table.{framesIn}
 use Rattle.batch.specs.Taken.{left, oneMore, othersTo}
 use Rattle.batch.specs.Batch.{cleanFrame, cleaned, pagesOf}
-use Rattle.batch.specs.Ranks.{rankAt}
-use Rattle.batch.specs.Written.{othersBy, Wrote}
+use Rattle.batch.specs.ForCode.{rankAt, othersBy, Wrote}
 use Rattle.batch.proofs.Cleaned.{cleaned-page, cleaned-snoc, pages-length, pages-snoc, sets-snoc}
 
 others-more : (waits : ℕ → Bool) (before : ℕ → ℕ → Bool) (f n : ℕ) → othersTo waits before f (suc n) ≡ oneMore waits before f (othersTo waits before f n)
@@ -50,23 +49,26 @@ others-grow waits before f n (suc m) =
     one (At i) xs h = rw (length-append xs (i ∷ [])) (omega arith)
     one Nothing xs h = h
 
-module _ (fs : List Frame) (marks : List Bool) (ranks : List Fraction) (f at : ℕ) (out₀ : List ℕ) where
+module _ (t₀ : List ℕ) (marks : List Bool) (nums dens : List ℕ) (f at : ℕ) (out₀ : List ℕ) where
+  abbrev fs : List Frame
+  fs = framesIn t₀
+
   abbrev waits : ℕ → Bool
   waits i = getD marks i false
 
   abbrev before : ℕ → ℕ → Bool
-  before i j = lessFraction (rankAt ranks i) (rankAt ranks j)
+  before i j = lessFraction (rankAt nums dens i) (rankAt nums dens j)
 
   abbrev taken : ℕ → List ℕ
-  taken n = othersBy marks ranks f n
+  taken n = othersBy marks nums dens f n
 
-  pub record Batching (gs : List Frame) (out : List ℕ) (ws : List Bool) (n : ℕ) : Type 0 where
-    pub frames : gs ≡ cleaned fs (taken n)
+  pub record Batching (t out : List ℕ) (ws : List Bool) (n : ℕ) : Type 0 where
+    pub frames : framesIn t ≡ cleaned fs (taken n)
     pub count : n ≡ length (taken n)
     pub list : out ≡ sets out₀ at (pagesOf fs (taken n))
     pub waiting : (i : ℕ) → i < f → getD ws i false ≡ left waits before f (taken n) i
 
-  pub starts : Batching fs out₀ marks 0
+  pub starts : Batching t₀ out₀ marks 0
   unfolding othersTo cleaned pagesOf among
   starts = record { frames = refl; count = refl; list = refl; waiting = λ i l. sym (kept (getD marks i false)) }
     where
@@ -74,7 +76,7 @@ module _ (fs : List Frame) (marks : List Bool) (ranks : List Fraction) (f at : �
       kept true = refl
       kept false = refl
 
-  module _ (gs : List Frame) (out : List ℕ) (ws : List Bool) (n : ℕ) (b : Batching gs out ws n) where
+  module _ (t out : List ℕ) (ws : List Bool) (n : ℕ) (b : Batching t out ws n) where
     -- what the marks find is the next
     same-search : leastBelow (λ i. getD ws i false) before f ≡ leastBelow (left waits before f (taken n)) before f
     same-search = least-cong (λ i. getD ws i false) (left waits before f (taken n)) before before f (b .waiting) (λ i j _ _. refl)
@@ -110,30 +112,31 @@ module _ (fs : List Frame) (marks : List Bool) (ranks : List Fraction) (f at : �
               ∙ b .waiting j l
               ∙ sym (rw (among-snoc (taken n) i j, q, or-false (among (taken n) j)))
 
-      pub turn : (g : Frame) → length ws ≡ 128 → f ≤ 128 → g ≡ cleanFrame (frameAt gs i) → Batching (set gs i g) (set out (at + n) (frameAt gs i .page)) (set ws i false) (n + 1)
-      turn g long few d = record {
-        frames = rw (d, next-taken) (ap (λ (x : List Frame). set x i (cleanFrame (frameAt x i))) (b .frames) ∙ cleaned-snoc fs (taken n) i);
+      pub turn : (fr : Frame) (t′ : List ℕ) → length ws ≡ 128 → f ≤ 128 → fr ≡ frameAt (framesIn t) i → framesIn t′ ≡ set (framesIn t) i (cleanFrame (frameAt (framesIn t) i))
+          → Batching t′ (set out (at + n) (fr .page)) (set ws i false) (n + 1)
+      turn fr t′ long few e d = record {
+        frames = rw next-taken (d ∙ ap (λ (x : List Frame). set x i (cleanFrame (frameAt x i))) (b .frames) ∙ cleaned-snoc fs (taken n) i);
         count = rw next-taken (ap (λ (k : ℕ). k + 1) (b .count) ∙ sym (length-append (taken n) (i ∷ [])));
-        list = rw next-taken (written ∙ sym (ap (sets out₀ at) (pages-snoc fs (taken n) i) ∙ sets-snoc out₀ at (pagesOf fs (taken n)) (frameAt fs i .page)));
+        list = rw (next-taken, e) (written ∙ sym (ap (sets out₀ at) (pages-snoc fs (taken n) i) ∙ sets-snoc out₀ at (pagesOf fs (taken n)) (frameAt fs i .page)));
         waiting = rw next-taken (marks-more long few);
       }
         where
-          page : frameAt gs i .page ≡ frameAt fs i .page
+          page : frameAt (framesIn t) i .page ≡ frameAt fs i .page
           page = ap (λ (x : List Frame). frameAt x i .page) (b .frames) ∙ cleaned-page fs (taken n) i
 
-          written : set out (at + n) (frameAt gs i .page) ≡ set (sets out₀ at (pagesOf fs (taken n))) (at + length (pagesOf fs (taken n))) (frameAt fs i .page)
+          written : set out (at + n) (frameAt (framesIn t) i .page) ≡ set (sets out₀ at (pagesOf fs (taken n))) (at + length (pagesOf fs (taken n))) (frameAt fs i .page)
           written =
-              ap (λ (x : List ℕ). set x (at + n) (frameAt gs i .page)) (b .list)
+              ap (λ (x : List ℕ). set x (at + n) (frameAt (framesIn t) i .page)) (b .list)
               ∙ ap (set (sets out₀ at (pagesOf fs (taken n))) (at + n)) page
               ∙ ap (λ (k : ℕ). set (sets out₀ at (pagesOf fs (taken n))) (at + k) (frameAt fs i .page)) (b .count ∙ sym (pages-length fs (taken n)))
 
-    done : (m : ℕ) → taken m ≡ taken n → Wrote fs (taken m) at (record { frames = gs; count = n }) out₀ out
-    done m q = rw q (record { frames = b .frames; count = b .count; list = b .list })
+    done : (m : ℕ) → taken m ≡ taken n → Wrote fs (taken m) at n t out₀ out
+    done m q = rw q (record { frames = b .frames; counted = b .count; list = b .list })
 
-    pub full : (m : ℕ) → n ≡ m → Wrote fs (taken m) at (record { frames = gs; count = n }) out₀ out
+    pub full : (m : ℕ) → n ≡ m → Wrote fs (taken m) at n t out₀ out
     full m e = done m (ap taken (sym e))
 
-    pub ends : (m : ℕ) → n ≤ m → leastBelow (λ i. getD ws i false) before f ≡ Nothing → Wrote fs (taken m) at (record { frames = gs; count = n }) out₀ out
+    pub ends : (m : ℕ) → n ≤ m → leastBelow (λ i. getD ws i false) before f ≡ Nothing → Wrote fs (taken m) at n t out₀ out
     ends m l e =
         let q : m - n + n ≡ m = omega arith in
         done m (ap taken (sym q) ∙ others-rest waits before f n (m - n) (sym same-search ∙ e))

@@ -23,7 +23,7 @@ use Rattle.victim.proofs.Rules.{by-rule}
 use Rattle.victim.proofs.watt.Values.{value-positive}
 use Rattle.batch.specs.Taken.{othersTo}
 use Rattle.batch.specs.Batch.{distance, batchOrder, waits, batchOf, cleanFrame, cleaned}
-use Rattle.batch.specs.Ranks.{rankOf}
+use Rattle.batch.specs.ForCode.{rankOf}
 use Rattle.batch.proofs.Ranks.{rank-order}
 use Rattle.batch.proofs.Taken.{Chosen, chosen, Enough, enough}
 use Rattle.batch.proofs.Cleaned.{cleaned-at, cleaned-length}

@@ -1,12 +1,12 @@
 -- The ranks: small enough to compare, and in the batch order.
-use mathlib.Core.Path.{_≡_, refl, ap, sym, subst, _∙_}
-use mathlib.Core.Bool.{Bool, true, false}
+use mathlib.Core.Path.{_≡_, refl, ap, sym, _∙_}
+use mathlib.Core.Bool.{Bool, true, false, _&&_, not}
 use mathlib.Core.List.{List}
 use Prim.Native.Nat.{ℕ, zero, suc, _+_, _-_, _*_, _%_, _≤_, _<_}
 use native.Mathlib.Omega.{arith}
 use native.Mathlib.Nat.{mod-lt, mul-one}
 use native.Mathlib.Decide.{ℕ-discrete}
-use lib.ListN.{length, getD, set}
+use lib.ListN.{length, set}
 use lib.Seq.{getD-set-same, getD-set-other}
 use lib.Dec.{eqb, ltb}
 use borrow.Author.Tests.{eqb-true, eqb-false, lt-ltb, ltb-true}
@@ -19,7 +19,7 @@ use Rattle.settings.specs.declared.Settings.{Settings}
 use Rattle.settings.proofs.Laws.{ranges}
 use Rattle.pool.specs.declared.Frame.{Frame}
 use Rattle.pool.specs.declared.Pool.{Pool}
-use Rattle.pool.specs.Pool.{frameAt, nowOf}
+use Rattle.pool.specs.Pool.{frameAt, nowOf, epochAt}
 use Rattle.pool.proofs.Sound.{Sound}
 use Rattle.victim.specs.Watt.{valueAt, lessValue}
 use Rattle.victim.specs.Rules.{byRule}
@@ -27,7 +27,7 @@ use Rattle.victim.specs.Lru.{older}
 use Rattle.victim.proofs.Rules.{by-rule, rule-rest}
 use Rattle.victim.proofs.watt.Values.{fitting, value-fits}
 use Rattle.batch.specs.Batch.{distance, sooner, batchOrder, waits}
-use Rattle.batch.specs.Ranks.{rankOf, rankFrom, Rankable, rankWhere, RankedTo}
+use Rattle.batch.specs.ForCode.{rankOf, rankFrom, Rankable, rankWhere, RankedTo}
 
 -- the three ways to a rank, from the parts that it needs
 module _ (s : Settings) (hand : ℕ) (fr : Frame) (i : ℕ) (access write : List ℕ) (epoch : ℕ) where
@@ -131,21 +131,32 @@ module _ (p : Pool) (s : Sound p) where
           ∙ lexical (frameAt (p .frames) i .count) (distance p i) (frameAt (p .frames) j .count) (distance p j) (distance-small i) (distance-small j)
       go (suc (suc r)) = refl
 
+-- now, as the code finds it
+pub now-is : (p : Pool) (epoch : ℕ) → epoch ≡ epochAt (p .settings) (p .k) → epoch ≡ nowOf p
+unfolding nowOf
+now-is p epoch e = e
+
 -- the arrays of waiting frames and ranks, one frame more
 module _ (p : Pool) (v : ℕ) where
-  pub ranked-none : (ws : List Bool) (rs : List Fraction) → RankedTo p v 0 ws rs
-  ranked-none ws rs = record { waiting = λ i l. absurd (omega arith); ranks = λ i l. absurd (omega arith) }
+  pub ranked-none : (ws : List Bool) (ns ds : List ℕ) → RankedTo p v 0 ws ns ds
+  ranked-none ws ns ds = record { waiting = λ i l. absurd (omega arith); ranks = λ i l. absurd (omega arith) }
 
-  pub ranked-more : (ws : List Bool) (rs : List Fraction) (n : ℕ) (r : Fraction) (epoch : ℕ) → length ws ≡ 128 → length rs ≡ 128 → n < 128 → RankedTo p v n ws rs → epoch ≡ nowOf p
-      → r ≡ pick (waits p v n) (rankFrom (p .settings) (p .hand) (frameAt (p .frames) n) n (p .access) (p .write) epoch) (fraction 0 1)
-      → RankedTo p v (n + 1) (set ws n (waits p v n)) (set rs n r)
-  ranked-more ws rs n r epoch x y l k e g = let h : r ≡ rankWhere (waits p v n) p n = g ∙ ap (λ (a : Fraction). pick (waits p v n) a (fraction 0 1)) (rank-is p n epoch e) in record {
-    waiting = λ i m. at ws i (waits p v n) false (λ b. b ≡ waits p v i) (rw x l) m (λ q. ap (waits p v) (sym q)) (k .waiting i);
-    ranks = λ i m. at rs i r (fraction 0 0) (λ b. b ≡ rankWhere (waits p v i) p i) (rw y l) m (λ q. h ∙ ap (λ (j : ℕ). rankWhere (waits p v j) p j) (sym q)) (k .ranks i);
-  }
-    where
-      at : {A : Type 0} (l : List A) (i : ℕ) (a d : A) (P : A → Type 0) → n < length l → i < n + 1 → (i ≡ n → P a) → (i < n → P (getD l i d)) → P (getD (set l n a) i d)
-      at l i a d P below m same other = elim (ℕ-discrete i n) [
-        | yes q ↦ subst (λ (x : ℕ). P (getD (set l n a) x d)) (sym q) (subst P (sym (getD-set-same l n a d below)) (same q))
-        | no q ↦ subst P (sym (getD-set-other l n i a d q)) (other (omega (arith, q)))
-      ]
+  module _ (ws : List Bool) (ns ds : List ℕ) (n epoch : ℕ) (a : length ws ≡ 128) (b : length ns ≡ 128) (c : length ds ≡ 128) (l : n < 128) (k : RankedTo p v n ws ns ds) (e : epoch ≡ nowOf p) where
+    with-frame : (r : Fraction) → r ≡ pick (waits p v n) (rankFrom (p .settings) (p .hand) (frameAt (p .frames) n) n (p .access) (p .write) epoch) (fraction 0 1)
+        → RankedTo p v (n + 1) (set ws n (waits p v n)) (set ns n (r .num)) (set ds n (r .den))
+    with-frame r g =
+        let h : r ≡ rankWhere (waits p v n) p n = g ∙ ap (λ (x : Fraction). pick (waits p v n) x (fraction 0 1)) (rank-is p n epoch e) in record {
+          waiting = λ i m. elim (ℕ-discrete i n) [
+            | yes q ↦ rw (q, getD-set-same ws n (waits p v n) false (rw a l))
+            | no q ↦ rw (getD-set-other ws n i (waits p v n) false q) (k .waiting i (omega (arith, q)))
+          ];
+          ranks = λ i m. elim (ℕ-discrete i n) [
+            | yes q ↦ rw (q, getD-set-same ns n (r .num) 0 (rw b l), getD-set-same ds n (r .den) 0 (rw c l)) h
+            | no q ↦ rw (getD-set-other ns n i (r .num) 0 q, getD-set-other ds n i (r .den) 0 q) (k .ranks i (omega (arith, q)))
+          ];
+        }
+
+    pub ranked-more : (fr : Frame) (r : Fraction) → fr ≡ frameAt (p .frames) n
+        → r ≡ pick ((fr .dirty && eqb (fr .pins) 0) && not (eqb v n)) (rankFrom (p .settings) (p .hand) fr n (p .access) (p .write) epoch) (fraction 0 1)
+        → RankedTo p v (n + 1) (set ws n ((fr .dirty && eqb (fr .pins) 0) && not (eqb v n))) (set ns n (r .num)) (set ds n (r .den))
+    ranked-more fr r q g = rw q (with-frame r (rw q at g))

@@ -8,6 +8,7 @@ use Rattle.search.specs.Search.{pick}
 use Rattle.pool.specs.declared.Frame.{Frame}
 use Rattle.pool.specs.declared.Pool.{Pool}
 use Rattle.pool.specs.Pool.{frameAt}
+use Rattle.table.specs.Table.{withDirty}
 use Rattle.victim.specs.Choice.{unpinned}
 use Rattle.victim.specs.Lru.{older}
 use Rattle.victim.specs.Watt.{lessValue}
@@ -25,7 +26,7 @@ sooner p i j =
     (ltb (distance p i) (distance p j))
     (ltb (frameAt (p .frames) i .count) (frameAt (p .frames) j .count))
 
--- LRU by last step; WATT by value over all frames, then frame number; clock by count and distance
+-- LRU by last step; WATT by value over all frames, and on a tie the search takes the lower frame number; clock by count and distance
 unfoldable pub batchOrder : Pool → ℕ → ℕ → Bool
 batchOrder p i j = byRule (p .settings .rule) (older (p .frames) i j) (sooner p i j) (lessValue p i j)
 
@@ -39,7 +40,7 @@ batchOf p v = pick (frameAt (p .frames) v .dirty) (v ∷ othersTo (waits p v) (b
 
 -- a frame that was written back
 abbrev pub cleanFrame : Frame → Frame
-cleanFrame fr = record { used = fr .used; page = fr .page; dirty = false; pins = fr .pins; count = fr .count; last = fr .last; accesses = fr .accesses; writes = fr .writes }
+cleanFrame fr = withDirty fr false
 
 -- all batch pages become clean
 unfoldable pub cleaned : List Frame → List ℕ → List Frame

@@ -1,4 +1,3 @@
 pub mod Taken
 pub mod Batch
-pub mod Ranks
-pub mod Written
+pub mod ForCode

@@ -1,8 +1,8 @@
 // The batch of a dirty victim: it first, then the other dirty unpinned frames in the rule's order, all of them cleaned.
 use pool::Frame;
-use pool::Pool;
 use search::Found;
 use settings::Settings;
+use table::Head;
 use worth::Fraction;
 ghost use mathlib.Core.Path.{_≡_};
 ghost use mathlib.Core.Bool.{true, false};
@@ -11,22 +11,15 @@ ghost use lib.ListN.{length, getD};
 ghost use Rattle.search.specs.Search.{pick, leastBelow};
 ghost use Rattle.worth.specs.Value.{fraction, lessFraction};
 ghost use Rattle.worth.specs.Sizes.{Small};
-ghost use Rattle.pool.specs.Pool.{nowOf, frameAt};
 ghost use Rattle.pool.specs.Sound.{soundPool};
-ghost use Rattle.batch.specs.Batch.{cleanFrame};
-ghost use Rattle.batch.specs.Written.{othersBy, Wrote, Batchable, WrittenBy};
-ghost use Rattle.batch.specs.Ranks.{Rankable, rankFrom, rankAt, RankedTo};
+ghost use Rattle.table.specs.Table.{framesIn, poolIn};
+ghost use Rattle.batch.specs.ForCode.{Wrote, Batchable, WrittenBy, Rankable, rankFrom, rankAt, RankedTo, othersBy};
 
-// What a batch leaves: the frames, and how many pages were written.
-pub struct Written {
-    pub frames: [Frame; 128],
-    pub count: usize,
-}
-
-// Which frames wait to be written beside the victim, and the rank of each.
+// Which frames wait to be written beside the victim, and the rank of each, a fraction in two arrays, which can be lent.
 struct Ranked {
     waiting: [bool; 128],
-    ranks: [Fraction; 128],
+    nums: [u64; 128],
+    dens: [u64; 128],
 }
 
 // How far frame i lies above the hand, going round.
@@ -85,38 +78,53 @@ fn rank_where<'a>(
 }
 
 // Which frames wait to be written beside victim v, and their ranks.
-fn rank_all(p: Pool, v: usize, epoch: u32) -> Ranked
-    requires { ⌜ (soundPool p ≡ true) × (epoch ≡ nowOf p) ⌝ }
-    ensures { λ r. ⌜ RankedTo p v (p .settings .frames) (r .waiting) (r .ranks) ⌝ }
+fn rank_all<'a>(
+    h: Head,
+    table: &'a [u32; 1024],
+    access: &'a [u32; 1024],
+    write: &'a [u32; 512],
+    v: usize,
+) -> Ranked
+    requires { ⌜ soundPool (poolIn h (now table) (now access) (now write)) ≡ true ⌝ }
+    ensures { λ r. ⌜ RankedTo (poolIn h (now (table .entry)) (now (access .entry)) (now (write .entry))) v (h .settings .frames) (r .waiting) (r .nums) (r .dens) ⌝ }
 {
-    let f = p.settings.frames as usize;
+    let epoch = table::now_of(h);
+    let s = h.settings;
+    let f = s.frames as usize;
     let mut waiting = [false; 128];
-    let mut ranks = [Fraction { num: 0, den: 0 }; 128];
+    let mut nums = [0u64; 128];
+    let mut dens = [0u64; 128];
     let mut i: usize = 0;
     while i < f {
-        let fr = p.frames[i];
+        let fr = table::frame_at(table, i);
         let waits = (fr.dirty & (fr.pins == 0)) & (v != i);
+        let rank = rank_where(waits, s, h.hand, fr, i, access, write, epoch);
         waiting[i] = waits;
-        ranks[i] = rank_where(waits, p.settings, p.hand, fr, i, &p.access, &p.write, epoch);
+        nums[i] = rank.num;
+        dens[i] = rank.den;
         i += 1;
     }
     Ranked {
         waiting: waiting,
-        ranks: ranks,
+        nums: nums,
+        dens: dens,
     }
 }
 
 // The waiting frame below f of least rank, the lowest on a tie.
-fn next(waiting: [bool; 128], ranks: [Fraction; 128], f: usize) -> Found
-    requires { ⌜ (f ≤ 128) × ((i : ℕ) → i < f → Small (rankAt ranks i)) ⌝ }
-    ensures { λ r. ⌜ r ≡ leastBelow (λ i. getD waiting i false) (λ i j. lessFraction (rankAt ranks i) (rankAt ranks j)) f ⌝ }
+fn next<'a>(waiting: &'a [bool; 128], nums: &'a [u64; 128], dens: &'a [u64; 128], f: usize) -> Found
+    requires { ⌜ (f ≤ 128) × ((i : ℕ) → i < f → Small (rankAt (now nums) (now dens) i)) ⌝ }
+    ensures { λ r. ⌜ r ≡ leastBelow (λ i. getD (now (waiting .entry)) i false) (λ i j. lessFraction (rankAt (now (nums .entry)) (now (dens .entry)) i) (rankAt (now (nums .entry)) (now (dens .entry)) j)) f ⌝ }
 {
     let mut best = Found::Nothing;
     let mut low = Fraction { num: 0, den: 1 };
     let mut i: usize = 0;
     while i < f {
         if waiting[i] {
-            let rank = ranks[i];
+            let rank = Fraction {
+                num: nums[i],
+                den: dens[i],
+            };
             if victim::watt::beats(rank, best, low) {
                 best = Found::At(i);
                 low = rank;
@@ -127,85 +135,58 @@ fn next(waiting: [bool; 128], ranks: [Fraction; 128], f: usize) -> Found
     best
 }
 
-fn clean(fr: Frame) -> Frame
-    ensures { λ r. ⌜ r ≡ cleanFrame fr ⌝ }
-{
-    let mut g = fr;
-    g.dirty = false;
-    g
-}
-
-// The waiting frames of least rank, at most `most`: cleaned, and their pages put to `out` from `at` on.
+// The waiting frames of least rank, at most `most`: cleaned, and their pages put to `out` from `at` on; how many there were.
 fn write_others(
-    frames: [Frame; 128],
-    marks: [bool; 128],
-    ranks: [Fraction; 128],
+    table: &mut [u32; 1024],
+    first: Ranked,
     f: usize,
     most: usize,
     out: &mut [u32],
     at: usize,
-) -> Written
-    requires { ⌜ (f ≤ 128) × ((i : ℕ) → i < f → Small (rankAt ranks i)) × (at + length (othersBy marks ranks f most) ≤ length (now out)) ⌝ }
-    ensures { λ r. ⌜ Wrote frames (othersBy marks ranks f most) at r (now (out .entry)) (now (out .exit)) × (r .count ≤ most) ⌝ }
+) -> usize
+    requires { ⌜ (f ≤ 128) × ((i : ℕ) → i < f → Small (rankAt (first .nums) (first .dens) i)) × (at + length (othersBy (first .waiting) (first .nums) (first .dens) f most) ≤ length (now out)) ⌝ }
+    ensures { λ r. ⌜ Wrote (framesIn (now (table .entry))) (othersBy (first .waiting) (first .nums) (first .dens) f most) at r (now (table .exit)) (now (out .entry)) (now (out .exit)) × (r ≤ most) ⌝ }
 {
-    let mut gs = frames;
-    let mut waiting = marks;
+    let mut waiting = first.waiting;
+    let nums = first.nums;
+    let dens = first.dens;
     let mut n: usize = 0;
     while n < most {
-        let found = next(waiting, ranks, f);
+        let found = next(&waiting, &nums, &dens, f);
         let Found::At(i) = found else {
-            return Written {
-                frames: gs,
-                count: n,
-            };
+            return n;
         };
-        let g = gs[i];
-        out[at + n] = g.page;
-        gs[i] = clean(g);
+        let fr = table::frame_at(table, i);
+        out[at + n] = fr.page;
+        table::clean(table, i);
         waiting[i] = false;
         n += 1;
     }
-    Written {
-        frames: gs,
-        count: n,
-    }
+    n
 }
 
-// The batch of a dirty victim: its page goes to `out` at `at`, and those of the others after it.
-fn write_dirty(p: Pool, v: usize, out: &mut [u32], at: usize) -> Written
-    requires { ⌜ Batchable p v at (length (now out)) × (frameAt (p .frames) v .dirty ≡ true) ⌝ }
-    ensures { λ r. ⌜ WrittenBy p v at r (now (out .entry)) (now (out .exit)) ⌝ }
+// The batch of victim v: a clean one writes nothing; a dirty one's page goes to `out` at `at`, and those of the others after it. How many pages
+// that are.
+pub fn write<'a>(
+    h: Head,
+    table: &mut [u32; 1024],
+    access: &'a [u32; 1024],
+    write: &'a [u32; 512],
+    v: usize,
+    out: &mut [u32],
+    at: usize,
+) -> usize
+    requires { ⌜ Batchable (poolIn h (now table) (now access) (now write)) v at (length (now out)) ⌝ }
+    ensures { λ r. ⌜ WrittenBy (poolIn h (now (table .entry)) (now (access .entry)) (now (write .entry))) v at r (now (table .exit)) (now (out .entry)) (now (out .exit)) ⌝ }
 {
-    let epoch = pool::now_of(p);
-    let first = rank_all(p, v, epoch);
-    let marks = first.waiting;
-    let ranks = first.ranks;
-    let mut gs = p.frames;
-    let fr = gs[v];
+    let fr = table::frame_at(table, v);
+    if !fr.dirty {
+        return 0;
+    }
+    let first = rank_all(h, table, access, write, v);
     out[at] = fr.page;
-    gs[v] = clean(fr);
-    let f = p.settings.frames as usize;
-    let most = p.settings.batch as usize - 1;
-    let rest = write_others(gs, marks, ranks, f, most, out, at + 1);
-    let frames = rest.frames;
-    Written {
-        frames: frames,
-        count: rest.count + 1,
-    }
-}
-
-// The batch of victim v: a clean one writes nothing.
-pub fn write(p: Pool, v: usize, out: &mut [u32], at: usize) -> Written
-    requires { ⌜ Batchable p v at (length (now out)) ⌝ }
-    ensures { λ r. ⌜ WrittenBy p v at r (now (out .entry)) (now (out .exit)) ⌝ }
-{
-    let frames = p.frames;
-    let fr = frames[v];
-    if fr.dirty {
-        return write_dirty(p, v, out, at);
-    }
-    Written {
-        frames: frames,
-        count: 0,
-    }
+    table::clean(table, v);
+    let f = h.settings.frames as usize;
+    let most = h.settings.batch as usize - 1;
+    write_others(table, first, f, most, out, at + 1) + 1
 }

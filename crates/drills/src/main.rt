@@ -2,12 +2,13 @@
 // commands, says how they are laid out, and knows the lines.
 ghost use mathlib.Core.Path.{_≡_};
 ghost use mathlib.Core.Bool.{true};
-ghost use Rattle.reference.specs.Reference.{Referable};
+ghost use Rattle.effect.specs.ForCode.{Enterable};
 use lines::say;
 use lines::say_number;
 use pool::Pool;
 use search::Found;
 use settings::Settings;
+use tally::Row;
 use word::Order;
 
 // A command and its three numbers.
@@ -50,46 +51,78 @@ fn skipped(p: Pool) -> Pool {
     p
 }
 
-// Whether frame i may be referred to.
-fn referable(p: Pool, i: usize) -> bool
-    ensures { λ r. ⌜ (r ≡ true → Referable p i) ⌝ }
+// A row whose page that left and batch length have no meaning.
+fn row_in(outcome: u32, frame: u32) -> Row {
+    Row {
+        outcome: outcome,
+        frame: frame,
+        left: 0,
+        batch: 0,
+    }
+}
+
+// Whether a record with that row may be entered: a reference only where one is left.
+fn enterable(p: Pool, row: Row) -> bool
+    ensures { λ r. ⌜ (r ≡ true → Enterable p row) ⌝ }
 {
-    (i < 128) & ((p.k < 50000) & ((0 < p.settings.epoch) & (p.settings.cap <= 7)))
+    let most = pool::REFERENCE_LIMIT - tally::one_if(row.outcome <= tally::MISS_DIRTY);
+    (row.frame < 128) & ((p.k <= most) & ((0 < p.settings.epoch) & (p.settings.cap <= 7)))
 }
 
-fn hit(p: Pool, i: usize, write: bool) -> Pool {
-    if referable(p, i) {
+// The pool after a record with that row.
+fn entered(p: Pool, row: Row, page: u32, kind: u16) -> Pool
+    requires { ⌜ Enterable p row ⌝ }
+{
+    let h = table::head_of(p);
+    let mut table = table::table_of(p);
+    let mut access = p.access;
+    let mut write = p.write;
+    let left = effect::enter(h, &mut table, &mut access, &mut write, row, page, kind);
+    table::pool_of(left, &table, access, write)
+}
+
+// A read or a write.
+fn kind_of(write: bool) -> u16 {
+    if write { 1 } else { 0 }
+}
+
+fn hit(p: Pool, i: u32, write: bool) -> Pool {
+    let row = row_in(tally::HIT, i);
+    if enterable(p, row) {
         say(b"hit\n");
-        return reference::hit(p, i, write);
+        return entered(p, row, 0, kind_of(write));
     }
     skipped(p)
 }
 
-fn fetch(p: Pool, i: usize, page: u32, write: bool) -> Pool {
-    if referable(p, i) {
+fn fetch(p: Pool, i: u32, page: u32, write: bool) -> Pool {
+    let row = row_in(tally::MISS_UNUSED, i);
+    if enterable(p, row) {
         say(b"fetch\n");
-        return reference::fetch(p, i, page, write);
+        return entered(p, row, page, kind_of(write));
     }
     skipped(p)
 }
 
+// A pin more. No record only pins, so the count is set.
 fn pin(p: Pool, i: usize) -> Pool {
     if i < 128 {
         let fr = p.frames[i];
         if fr.pins < 255 {
             say(b"pin\n");
-            return reference::pin(p, i);
+            return knobs::with_frame(p, i, 3, fr.pins as u32 + 1);
         }
     }
     skipped(p)
 }
 
-fn unpin(p: Pool, i: usize) -> Pool {
-    if i < 128 {
-        let fr = p.frames[i];
+fn unpin(p: Pool, i: u32) -> Pool {
+    let row = row_in(tally::UNPINNED, i);
+    if enterable(p, row) {
+        let fr = p.frames[row.frame as usize];
         if 0 < fr.pins {
             say(b"unpin\n");
-            return reference::unpin(p, i);
+            return entered(p, row, 0, 3);
         }
     }
     skipped(p)
@@ -105,19 +138,20 @@ fn say_found(found: Found) {
 // The pool that its rule's choice leaves: as it was where there is no victim.
 fn victim(p: Pool) -> Pool {
     if pool::check(p) == 0 {
-        let c = victim::choose(p);
+        let mut h = table::head_of(p);
+        let mut table = table::table_of(p);
+        let access = p.access;
+        let write = p.write;
+        let c = victim::choose(h, &mut table, &access, &write);
         let found = c.found;
-        let frames = c.frames;
-        let mut q = p;
-        q.hand = c.hand;
-        q.sampler = c.sampler;
-        q.frames = frames;
+        h.hand = c.hand;
+        h.sampler = c.sampler;
         say(b"victim");
         say_found(found);
-        say_number(q.hand as u64);
-        say_number(q.sampler as u64);
+        say_number(h.hand as u64);
+        say_number(h.sampler as u64);
         say(b"\n");
-        return q;
+        return table::pool_of(h, &table, access, write);
     }
     skipped(p)
 }
@@ -126,16 +160,17 @@ fn victim(p: Pool) -> Pool {
 fn write(p: Pool, v: usize, at: usize) -> Pool {
     if pool::check(p) == 0 {
         if (v < p.settings.frames as usize) & (at <= 16) {
+            let h = table::head_of(p);
+            let mut table = table::table_of(p);
+            let access = p.access;
+            let write = p.write;
             let mut list = [7u32; 32];
-            let w = batch::write(p, v, &mut list, at);
+            let n = batch::write(h, &mut table, &access, &write, v, &mut list, at);
             say(b"batch");
-            say_number(w.count as u64);
+            say_number(n as u64);
             say_number(knobs::digest(1, &list));
             say(b"\n");
-            let frames = w.frames;
-            let mut q = p;
-            q.frames = frames;
-            return q;
+            return table::pool_of(h, &table, access, write);
         }
     }
     skipped(p)
@@ -145,10 +180,10 @@ fn write(p: Pool, v: usize, at: usize) -> Pool {
 fn worked(p: Pool, m: Command) -> Pool {
     let op = m.op;
     match op {
-        11 => hit(p, m.a as usize, m.b != 0),
-        12 => fetch(p, m.a as usize, m.b, m.c != 0),
+        11 => hit(p, m.a, m.b != 0),
+        12 => fetch(p, m.a, m.b, m.c != 0),
         13 => pin(p, m.a as usize),
-        14 => unpin(p, m.a as usize),
+        14 => unpin(p, m.a),
         15 => victim(p),
         16 => write(p, m.a as usize, m.b as usize),
         _ => p,
@@ -158,7 +193,7 @@ fn worked(p: Pool, m: Command) -> Pool {
 fn say_value(p: Pool, i: usize) {
     if pool::check(p) == 0 {
         if i < 128 {
-            let epoch = pool::now_of(p);
+            let epoch = table::now_of(table::head_of(p));
             let fr = p.frames[i];
             let v = victim::watt::value_of(fr, &p.access, &p.write, i, p.settings.weight, epoch);
             say(b"value");
@@ -171,13 +206,13 @@ fn say_value(p: Pool, i: usize) {
 }
 
 fn say_unused(p: Pool) {
-    if p.settings.frames <= 128 {
+    if pool::check(p) == 0 {
+        let table = table::table_of(p);
         say(b"unused");
-        let frames = p.frames;
-        say_found(reference::free_for(frames, p.settings.frames, Found::Nothing));
-    } else {
-        say(b"skipped");
+        say_found(reference::free_for(&table, p.settings.frames, Found::Nothing));
+        return;
     }
+    say(b"skipped");
 }
 
 fn say_checked(p: Pool) {
@@ -186,9 +221,13 @@ fn say_checked(p: Pool) {
 }
 
 fn say_where(p: Pool, page: u32) {
-    say(b"find");
-    let frames = p.frames;
-    say_found(reference::find(frames, page));
+    if pool::check(p) == 0 {
+        let table = table::table_of(p);
+        say(b"find");
+        say_found(reference::find(&table, page));
+        return;
+    }
+    say(b"skipped");
 }
 
 fn said(p: Pool, m: Command) {

@@ -12,14 +12,14 @@ use borrow.Author.Tests.{le-leb, lt-leb}
 use Rattle.search.specs.Search.{pick, oneIf}
 use Rattle.pool.specs.declared.Frame.{Frame}
 use Rattle.pool.specs.declared.Pool.{Pool}
-use Rattle.pool.specs.Pool.{emptyFrame, frameAt, nowOf, withCount}
+use Rattle.pool.specs.Pool.{emptyFrame, frameAt, epochAt, nowOf, withCount}
 use Rattle.pool.proofs.Sizes.{Sized}
 use Rattle.reference.specs.Logs.{lengthWith, logWith}
 use Rattle.reference.specs.Reference.{withPins, raised, newFrame, referred, hitAt, fetchedAt, pinnedAt, unpinnedAt}
 use Rattle.tally.specs.declared.Row.{Row}
 use Rattle.tally.specs.Rows.{row, hit, missUnused, missClean, missDirty, unpinned}
 use Rattle.effect.specs.Record.{pinLimit, pinsAt, pinnedWhere, filled}
-use Rattle.effect.specs.Entered.{pinsWith, hitFrame, fetchedFrame, byOutcome, enteringFrame, refers, fetches, clearedWhere, withLengths, enteredAt, entered}
+use Rattle.effect.specs.ForCode.{pinsWith, hitFrame, fetchedFrame, byOutcome, enteringFrame, refers, fetches, clearedWhere, withLengths, enteredAt, entered}
 
 set-self : (l : List Frame) (i : ℕ) → set l i (frameAt l i) ≡ l
 set-self [] i = refl
@@ -151,11 +151,13 @@ pub unpinned-none : (fr : Frame) → fr .pins ≤ 0 → fr ≡ withPins fr (fr .
 unpinned-none fr l = let e : fr .pins ≡ fr .pins - 1 = omega arith in ap (withPins fr) e
 
 -- what the code leaves of a pool
-pub placed-is : (p : Pool) (w : Row) (page kind epoch : ℕ) (g : Frame) (n m one : ℕ) (a b : List ℕ) → epoch ≡ nowOf p
-    → g ≡ enteringFrame (frameAt (p .frames) (w .frame)) (w .outcome) page kind (p .settings .cap) (p .k)
+pub placed-is : (p : Pool) (w : Row) (page kind epoch : ℕ) (old g : Frame) (n m one : ℕ) (a b : List ℕ) (fs : List Frame) → epoch ≡ epochAt (p .settings) (p .k)
+    → old ≡ frameAt (p .frames) (w .frame)
+    → g ≡ enteringFrame old (w .outcome) page kind (p .settings .cap) (p .k)
     → (n ≡ lengthWith (clearedWhere (fetches (w .outcome)) (p .access) (w .frame * 8) 8) (w .frame * 8) 8 (g .accesses) epoch (refers (w .outcome))) × (a ≡ logWith (clearedWhere (fetches (w .outcome)) (p .access) (w .frame * 8) 8) (w .frame * 8) 8 (g .accesses) epoch (refers (w .outcome)))
     → (m ≡ lengthWith (clearedWhere (fetches (w .outcome)) (p .write) (w .frame * 4) 4) (w .frame * 4) 4 (g .writes) epoch (refers (w .outcome) && eqb kind 1)) × (b ≡ logWith (clearedWhere (fetches (w .outcome)) (p .write) (w .frame * 4) 4) (w .frame * 4) 4 (g .writes) epoch (refers (w .outcome) && eqb kind 1))
+    → fs ≡ set (p .frames) (w .frame) (withLengths g n m)
     → one ≡ oneIf (refers (w .outcome))
-    → _≡_ {A = Pool} (record { settings = p .settings; k = p .k + one; hand = p .hand; sampler = p .sampler; frames = set (p .frames) (w .frame) (withLengths g n m); access = a; write = b }) (entered p w page kind)
-unfolding entered
-placed-is p w page kind epoch g n m one a b e h x y o = rw (x .0, x .1, y .0, y .1, o, h, e)
+    → _≡_ {A = Pool} (record { settings = p .settings; k = p .k + one; hand = p .hand; sampler = p .sampler; frames = fs; access = a; write = b }) (entered p w page kind)
+unfolding entered nowOf
+placed-is p w page kind epoch old g n m one a b fs e d h x y f o = rw (f, x .0, x .1, y .0, y .1, o, h, d, e)

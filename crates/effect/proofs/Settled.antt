@@ -13,11 +13,12 @@ use Rattle.pool.specs.declared.Frame.{Frame}
 use Rattle.pool.specs.declared.Pool.{Pool}
 use Rattle.pool.specs.Pool.{referenceLimit}
 use Rattle.pool.specs.Sound.{soundPool}
-use Rattle.reference.specs.Search.{findPage, freeFor}
+use Rattle.reference.specs.Search.{findPage}
+use Rattle.reference.specs.ForCode.{freeFor}
 use Rattle.tally.specs.declared.Row.{Row}
 use Rattle.tally.specs.Rows.{row, hit, missUnused, missClean, unpinned, refusedRow}
 use Rattle.effect.specs.Record.{pinLimit, pinsAt}
-use Rattle.effect.specs.Entered.{Framed, settledHit, settledMiss, settledReference, settledUnpin, settledBy, placeOf, settledOf}
+use Rattle.effect.specs.ForCode.{Framed, settledHit, settledMiss, settledReference, settledUnpin, settledBy, placeOf, settledOf}
 use Rattle.effect.proofs.Ways.{found-few, unused-few}
 
 -- a row that is settled so, in a frame

@@ -17,8 +17,7 @@ use Rattle.pool.specs.Sound.{soundPool}
 use Rattle.pool.proofs.Sound.{told}
 use Rattle.reference.specs.Search.{has, findPage, unused, lowestUnused}
 use Rattle.reference.specs.Reference.{hitAt, unpinnedAt}
-use Rattle.victim.specs.declared.Choice.{Choice}
-use Rattle.victim.specs.Choice.{leftBy}
+use Rattle.victim.specs.Choice.{Choice, leftBy}
 use Rattle.victim.specs.Rules.{choiceOf}
 use Rattle.tally.specs.Rows.{row, hit, missUnused, unpinned}
 use Rattle.effect.specs.Record.{did, pinLimit, pinsAt, refusal, pinnedWhere, filled, hitOf, leavingOf, evictionOf, missOf, referenceOf, unpinOf}

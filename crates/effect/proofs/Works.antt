@@ -16,7 +16,11 @@ use Rattle.pool.specs.Pool.{referenceLimit, frameAt, withFrames}
 use Rattle.pool.specs.Sound.{soundPool}
 use Rattle.pool.proofs.Sound.{Sound, told, made}
 use Rattle.pool.proofs.Sizes.{Sized}
-use Rattle.reference.specs.Search.{findPage, lowestUnused, freeFor}
+use Rattle.table.specs.declared.Head.{Head}
+use Rattle.table.specs.Table.{poolIn}
+use Rattle.table.proofs.Held.{frames-long}
+use Rattle.reference.specs.Search.{findPage, lowestUnused}
+use Rattle.reference.specs.ForCode.{freeFor}
 use Rattle.reference.specs.Reference.{hitAt, unpinnedAt}
 use Rattle.victim.specs.Choice.{leftBy}
 use Rattle.victim.specs.Rules.{choiceOf}
@@ -26,10 +30,8 @@ use Rattle.batch.proofs.Laws.{batch-sized}
 use Rattle.tally.specs.declared.Row.{Row}
 use Rattle.tally.specs.Rows.{row, hit, missUnused, missClean, unpinned, refusedRow}
 use Rattle.effect.specs.Record.{Did, did, pinLimit, pinsAt, refusal, pinnedWhere, filled, hitOf, leavingOf, evictionOf, missOf, referenceOf, unpinOf, recordOf}
-use Rattle.effect.specs.declared.Effect.{Effect}
-use Rattle.effect.specs.declared.Room.{Room}
-use Rattle.effect.specs.Effect.{Leaves, Plays}
-use Rattle.effect.specs.Entered.{Enterable, RoomMade, workedOf, settledHit, settledMiss, settledReference, settledUnpin, settledBy, placeOf, settledOf, roomRow, roomPages, roomFrames, roomed, entered}
+use Rattle.effect.specs.declared.Played.{Played}
+use Rattle.effect.specs.ForCode.{Effect, effectIn, Leaves, Plays, Enterable, RoomMade, settledHit, settledMiss, settledReference, settledUnpin, settledBy, placeOf, settledOf, roomRow, roomPages, roomFrames, roomed, entered, fullOf}
 use Rattle.effect.proofs.Ways.{found-few, unused-few, at-limit, resident, absent, free, full, victim, no-victim, pins-full, pins-free, unpin-absent, unpin-none, unpin-one}
 use Rattle.effect.proofs.Placed.{entered-hit, entered-free, entered-left, entered-unpin, entered-none}
 
@@ -167,19 +169,23 @@ enterable p w h l =
     let r = ranges (p .settings) (s .settings) in
     record { frame = l; epoch = r .epoch .0; cap = r .cap .1; few = s .few }
 
+-- a head, a table and logs make a pool of the right size
+pub sized-in : (h : Head) (t access write : List ℕ) → length access ≡ 1024 → length write ≡ 512 → Sized (poolIn h t access write)
+sized-in h t access write a b = record { frames = frames-long t 128; access = a; write = b }
+
 module _ (p : Pool) (s : soundPool p ≡ true) (z : Sized p) (page kind at : ℕ) where
-  pub played-settled : (w : Row) (q : Pool) (list : List ℕ) → w ≡ settledOf p page kind → (w .outcome ≡ missClean → ⊥) → q ≡ entered p w page kind
-      → Leaves (recordOf p page kind) at (record { row = w; pool = q }) list list
-  played-settled w q list e ne h =
+  pub played-settled : (w : Row) (g : Head) (t access write list : List ℕ) → w ≡ settledOf p page kind → (w .outcome ≡ missClean → ⊥) → poolIn g t access write ≡ entered p w page kind
+      → Leaves (recordOf p page kind) at (record { row = w; head = g }) t access write list list
+  played-settled w g t access write list e ne h =
       let k = worked-settled p (told p s) z page kind (λ c. ne (ap (λ (x : Row). x .outcome) e ∙ c)) in
       record {
-        effect = row-and-pool w (recordOf p page kind .row) q (recordOf p page kind .pool) (e ∙ k .row) (h ∙ ap (λ (x : Row). entered p x page kind) e ∙ k .pool);
+        effect = row-and-pool w (recordOf p page kind .row) (poolIn g t access write) (recordOf p page kind .pool) (e ∙ k .row) (h ∙ ap (λ (x : Row). entered p x page kind) e ∙ k .pool);
         list = ap (sets list at) (k .written);
       }
 
-  pub played-roomed : (w : Row) (r : Effect) (before after : List ℕ) → w ≡ settledOf p page kind → w .outcome ≡ missClean
-      → r ≡ workedOf (roomed p) (roomRow p) page kind → after ≡ sets before at (roomPages p) → Leaves (recordOf p page kind) at r before after
-  played-roomed w r before after e c h l =
+  pub played-roomed : (w : Row) (r : Played) (t access write before after : List ℕ) → w ≡ settledOf p page kind → w .outcome ≡ missClean
+      → effectIn r t access write ≡ fullOf p page kind → after ≡ sets before at (roomPages p) → Leaves (recordOf p page kind) at r t access write before after
+  played-roomed w r t access write before after e c h l =
       let k = worked-roomed p (told p s) z page kind (sym (ap (λ (x : Row). x .outcome) e) ∙ c) in
       record {
         effect = h ∙ row-and-pool (roomRow p) (recordOf p page kind .row) (entered (roomed p) (roomRow p) page kind) (recordOf p page kind .pool) (k .row) (k .pool);
@@ -191,37 +197,14 @@ module _ (p : Pool) (s : soundPool p ≡ true) (z : Sized p) (page kind at : ℕ
       let k = worked-roomed p (told p s) z page kind (sym (ap (λ (x : Row). x .outcome) e) ∙ c) in
       subst (λ (l : List ℕ). at + length l ≤ places) (sym (k .written)) (h .room)
 
--- a pool given the room that was made
-pub full-is : (p : Pool) (r : Room) (at page kind : ℕ) (q : Pool) (before after : List ℕ) → RoomMade p at r before after
-    → q ≡ entered (record { settings = p .settings; k = p .k; hand = r .hand; sampler = r .sampler; frames = r .frames; access = p .access; write = p .write }) (r .row) page kind
-    → _≡_ {A = Effect} (record { row = r .row; pool = q }) (workedOf (roomed p) (roomRow p) page kind)
-full-is p r at page kind q before after m h = rw (h, m .row, m .hand, m .sampler, m .frames)
+-- a record entered where room was made
+pub full-is : (p : Pool) (r : Played) (at page kind : ℕ) (q : Pool) (t before after : List ℕ) → RoomMade p at r t before after
+    → q ≡ entered (poolIn (r .head) t (p .access) (p .write)) (r .row) page kind
+    → _≡_ {A = Effect} (record { row = r .row; pool = q }) (fullOf p page kind)
+full-is p r at page kind q t before after m h = rw (h, m .row, m .pool)
 
--- a pool given the room that was made
-abbrev pub withRoom : Pool → Room → Pool
-withRoom p r = record { settings = p .settings; k = p .k; hand = r .hand; sampler = r .sampler; frames = r .frames; access = p .access; write = p .write }
-
--- a pool q and a row such that entering the row gives what the record does to p
-pub record Prepared (p q : Pool) (w : Row) (page kind : ℕ) : Type 0 where
-  pub row : w ≡ recordOf p page kind .row
-  pub pool : entered q w page kind ≡ recordOf p page kind .pool
-  pub able : Enterable q w
-
-module _ (p : Pool) (s : soundPool p ≡ true) (z : Sized p) (page kind : ℕ) where
-  pub prepared-settled : (w : Row) → w ≡ settledOf p page kind → w .frame < 128 → (w .outcome ≡ missClean → ⊥) → Prepared p p w page kind
-  prepared-settled w e l ne =
-      let k = worked-settled p (told p s) z page kind (λ c. ne (ap (λ (x : Row). x .outcome) e ∙ c)) in
-      record { row = e ∙ k .row; pool = ap (λ (x : Row). entered p x page kind) e ∙ k .pool; able = enterable p w s l }
-
-  pub prepared-roomed : (w : Row) (r : Room) (at : ℕ) (before after : List ℕ) → w ≡ settledOf p page kind → w .outcome ≡ missClean → RoomMade p at r before after → Prepared p (withRoom p r) (r .row) page kind
-  prepared-roomed w r at before after e c m =
-      let k = worked-roomed p (told p s) z page kind (sym (ap (λ (x : Row). x .outcome) e) ∙ c) in
-      let a = enterable p (r .row) s (m .frame) in
-      record {
-        row = m .row ∙ k .row;
-        pool = room-entered r at before after m ∙ k .pool;
-        able = record { frame = a .frame; epoch = a .epoch; cap = a .cap; few = a .few };
-      }
-    where
-      room-entered : (r : Room) (at : ℕ) (before after : List ℕ) → RoomMade p at r before after → entered (withRoom p r) (r .row) page kind ≡ entered (roomed p) (roomRow p) page kind
-      room-entered r at before after m = rw (m .row, m .hand, m .sampler, m .frames)
+-- room may be entered
+pub room-enterable : (p : Pool) (r : Played) (at : ℕ) (t before after : List ℕ) → soundPool p ≡ true → RoomMade p at r t before after → Enterable (poolIn (r .head) t (p .access) (p .write)) (r .row)
+room-enterable p r at t before after s m =
+    let a = enterable p (r .row) s (m .frame) in
+    subst (λ (q : Pool). Enterable q (r .row)) (sym (m .pool)) (record { frame = a .frame; epoch = a .epoch; cap = a .cap; few = a .few })

@@ -1,3 +1,2 @@
 pub mod Record
-pub mod Effect
-pub mod Entered
+pub mod ForCode

@@ -11,8 +11,7 @@ use Rattle.pool.specs.declared.Pool.{Pool}
 use Rattle.pool.specs.Pool.{referenceLimit, frameRoom, frameAt, withFrames}
 use Rattle.reference.specs.Search.{findPage, lowestUnused}
 use Rattle.reference.specs.Reference.{hitAt, fetchedAt, pinnedAt, unpinnedAt}
-use Rattle.victim.specs.declared.Choice.{Choice}
-use Rattle.victim.specs.Choice.{leftBy}
+use Rattle.victim.specs.Choice.{Choice, leftBy}
 use Rattle.victim.specs.Rules.{choiceOf}
 use Rattle.batch.specs.Batch.{batchOf, cleaned, pagesOf}
 use Rattle.tally.specs.declared.Row.{Row}
@@ -24,7 +23,7 @@ pub record Did : Type 0 where
   pub written : List ℕ
   pub pool : Pool
 
--- from these
+-- what a record did, from these three
 abbrev pub did : Row → List ℕ → Pool → Did
 did w pages p = record { row = w; written = pages; pool = p }
 

@@ -1,7 +1,7 @@
 // What one record does to a pool: its row, the pages written, and the pool afterwards.
 use pool::Frame;
-use pool::Pool;
 use search::Found;
+use table::Head;
 use tally::Row;
 ghost use mathlib.Core.Path.{_≡_};
 ghost use mathlib.Core.Bool.{true};
@@ -10,24 +10,16 @@ ghost use lib.ListN.{length};
 ghost use lib.Seq.{sets};
 ghost use Rattle.search.specs.Search.{pick};
 ghost use Rattle.pool.specs.Sound.{soundPool};
+ghost use Rattle.table.specs.Table.{poolIn};
 ghost use Rattle.reference.specs.Reference.{withPins};
 ghost use Rattle.tally.specs.Rows.{row, missClean, missDirty};
 ghost use Rattle.effect.specs.Record.{recordOf};
-ghost use Rattle.effect.specs.Effect.{Leaves, Plays};
-ghost use Rattle.effect.specs.Entered.{settledHit, settledMiss, settledReference, settledUnpin, settledBy, placeOf, roomRow, roomPages, roomed, RoomMade, Framed, pinsWith, hitFrame, fetchedFrame, enteringFrame, Enterable, entered, workedOf};
+ghost use Rattle.effect.specs.ForCode.{effectIn, Leaves, Plays, settledHit, settledMiss, settledReference, settledUnpin, settledBy, placeOf, roomPages, RoomMade, Framed, pinsWith, hitFrame, fetchedFrame, enteringFrame, Enterable, entered, fullOf};
 
-// A record's row, and the pool afterwards.
-pub struct Effect {
+// A record's row, and settings, k, hand and sampler number afterwards. Frames and logs are changed where they stand.
+pub struct Played {
     pub row: Row,
-    pub pool: Pool,
-}
-
-// Where a victim is wanted: the row, and hand, sampler number and frames then.
-pub struct Room {
-    pub row: Row,
-    pub hand: u16,
-    pub sampler: u32,
-    pub frames: [Frame; 128],
+    pub head: Head,
 }
 
 // The greatest pin count of a frame.
@@ -98,7 +90,7 @@ fn settle_unpin(found: Found, pins: u8) -> Row
 
 // The row of a record at step k, whose page was found in a frame with so many pins, or may go into an unused one. Where it is a miss with
 // a clean victim, a victim is wanted and is still to be found.
-pub fn settle(k: u32, found: Found, pins: u8, free: Found, kind: u16) -> Row
+fn settle(k: u32, found: Found, pins: u8, free: Found, kind: u16) -> Row
     requires { ⌜ Framed found × Framed free ⌝ }
     ensures { λ r. ⌜ (r ≡ settledBy k found pins free kind) × (r .frame < 128) ⌝ }
 {
@@ -110,7 +102,7 @@ pub fn settle(k: u32, found: Found, pins: u8, free: Found, kind: u16) -> Row
 }
 
 // The frame in which a page was found, or 0.
-pub fn place_of(found: Found) -> usize
+fn place_of(found: Found) -> usize
     requires { ⌜ Framed found ⌝ }
     ensures { λ r. ⌜ (r ≡ placeOf found) × (r < 128) ⌝ }
 {
@@ -143,34 +135,35 @@ fn leaving_row(fr: Frame, v: usize, batch: usize) -> Row
 }
 
 // Where a victim is wanted: it is chosen and its batch written, or the record is refused.
-pub fn make_room(p: Pool, out: &mut [u32], at: usize) -> Room
-    requires { ⌜ (soundPool p ≡ true) × (at + length (roomPages p) ≤ length (now out)) ⌝ }
-    ensures { λ r. ⌜ RoomMade p at r (now (out .entry)) (now (out .exit)) ⌝ }
+fn make_room<'a>(
+    h: Head,
+    table: &mut [u32; 1024],
+    access: &'a [u32; 1024],
+    write: &'a [u32; 512],
+    out: &mut [u32],
+    at: usize,
+) -> Played
+    requires { ⌜ (soundPool (poolIn h (now table) (now access) (now write)) ≡ true) × (at + length (roomPages (poolIn h (now table) (now access) (now write))) ≤ length (now out)) ⌝ }
+    ensures { λ r. ⌜ RoomMade (poolIn h (now (table .entry)) (now (access .entry)) (now (write .entry))) at r (now (table .exit)) (now (out .entry)) (now (out .exit)) ⌝ }
 {
-    let c = victim::choose(p);
-    let frames = c.frames;
+    let c = victim::choose(h, table, access, write);
+    let mut left = h;
+    left.hand = c.hand;
+    left.sampler = c.sampler;
     let found = c.found;
     let Found::At(v) = found else {
         let none = tally::refused_row(refusal::NO_FRAME);
-        return Room {
+        return Played {
             row: none,
-            hand: c.hand,
-            sampler: c.sampler,
-            frames: frames,
+            head: left,
         };
     };
-    let mut q = p;
-    q.hand = c.hand;
-    q.sampler = c.sampler;
-    q.frames = frames;
-    let b = batch::write(q, v, out, at);
-    let row = leaving_row(frames[v], v, b.count);
-    let cleaned = b.frames;
-    Room {
+    let fr = table::frame_at(table, v);
+    let n = batch::write(left, table, access, write, v, out, at);
+    let row = leaving_row(fr, v, n);
+    Played {
         row: row,
-        hand: c.hand,
-        sampler: c.sampler,
-        frames: cleaned,
+        head: left,
     }
 }
 
@@ -222,7 +215,7 @@ fn unpinned_frame(fr: Frame) -> Frame
 }
 
 // The frame of a record with that outcome, but for its logs.
-pub fn entering(fr: Frame, outcome: u32, page: u32, kind: u16, cap: u16, k: u32) -> Frame
+fn entering(fr: Frame, outcome: u32, page: u32, kind: u16, cap: u16, k: u32) -> Frame
     requires { ⌜ cap ≤ 7 ⌝ }
     ensures { λ r. ⌜ r ≡ enteringFrame fr outcome page kind cap k ⌝ }
 {
@@ -235,65 +228,82 @@ pub fn entering(fr: Frame, outcome: u32, page: u32, kind: u16, cap: u16, k: u32)
 }
 
 // A record with that row, on a pool that has room for it.
-fn enter(p: Pool, row: Row, page: u32, kind: u16) -> Pool
-    requires { ⌜ Enterable p row ⌝ }
-    ensures { λ r. ⌜ r ≡ entered p row page kind ⌝ }
+pub fn enter(
+    h: Head,
+    table: &mut [u32; 1024],
+    access: &mut [u32; 1024],
+    write: &mut [u32; 512],
+    row: Row,
+    page: u32,
+    kind: u16,
+) -> Head
+    requires { ⌜ Enterable (poolIn h (now table) (now access) (now write)) row ⌝ }
+    ensures { λ r. ⌜ poolIn r (now (table .exit)) (now (access .exit)) (now (write .exit)) ≡ entered (poolIn h (now (table .entry)) (now (access .entry)) (now (write .entry))) row page kind ⌝ }
 {
     let refers = row.outcome <= tally::MISS_DIRTY;
     let fetches = (tally::MISS_UNUSED <= row.outcome) & refers;
-    let epoch = pool::now_of(p);
+    let writes = refers & (kind == 1);
+    let epoch = table::now_of(h);
     let at = row.frame as usize;
-    let mut q = p;
-    let mut fr = entering(q.frames[at], row.outcome, page, kind, q.settings.cap, q.k);
-    fr.accesses = reference::enter_access(&mut q.access, at, fr.accesses, epoch, fetches, refers);
-    fr.writes = reference::enter_write(
-        &mut q.write,
-        at,
-        fr.writes,
-        epoch,
-        fetches,
-        refers & (kind == 1),
-    );
-    q.frames[at] = fr;
-    q.k = q.k + tally::one_if(refers);
-    q
+    let old = table::frame_at(table, at);
+    let mut fr = entering(old, row.outcome, page, kind, h.settings.cap, h.k);
+    fr.accesses = reference::enter_access(access, at, fr.accesses, epoch, fetches, refers);
+    fr.writes = reference::enter_write(write, at, fr.writes, epoch, fetches, writes);
+    table::put(table, at, fr);
+    let mut left = h;
+    left.k = h.k + tally::one_if(refers);
+    left
 }
 
 // A record where a victim is wanted.
-fn play_full(p: Pool, page: u32, kind: u16, out: &mut [u32], at: usize) -> Effect
-    requires { ⌜ (soundPool p ≡ true) × (at + length (roomPages p) ≤ length (now out)) ⌝ }
-    ensures { λ r. ⌜ (r ≡ workedOf (roomed p) (roomRow p) page kind) × (now (out .exit) ≡ sets (now (out .entry)) at (roomPages p)) ⌝ }
+fn play_full(
+    h: Head,
+    table: &mut [u32; 1024],
+    access: &mut [u32; 1024],
+    write: &mut [u32; 512],
+    page: u32,
+    kind: u16,
+    out: &mut [u32],
+    at: usize,
+) -> Played
+    requires { ⌜ (soundPool (poolIn h (now table) (now access) (now write)) ≡ true) × (at + length (roomPages (poolIn h (now table) (now access) (now write))) ≤ length (now out)) ⌝ }
+    ensures { λ r. ⌜ (effectIn r (now (table .exit)) (now (access .exit)) (now (write .exit)) ≡ fullOf (poolIn h (now (table .entry)) (now (access .entry)) (now (write .entry))) page kind)
+        × (now (out .exit) ≡ sets (now (out .entry)) at (roomPages (poolIn h (now (table .entry)) (now (access .entry)) (now (write .entry))))) ⌝ }
 {
-    let room = make_room(p, out, at);
-    let frames = room.frames;
-    let mut q = p;
-    q.hand = room.hand;
-    q.sampler = room.sampler;
-    q.frames = frames;
+    let room = make_room(h, table, access, write, out, at);
     let row = room.row;
-    let left = enter(q, row, page, kind);
-    Effect {
+    let roomy = room.head;
+    let left = enter(roomy, table, access, write, row, page, kind);
+    Played {
         row: row,
-        pool: left,
+        head: left,
     }
 }
 
-// What a record does to a pool; its written pages go to `out` from `at` on.
-pub fn play(p: Pool, page: u32, kind: u16, out: &mut [u32], at: usize) -> Effect
-    requires { ⌜ Plays p (recordOf p page kind) at (length (now out)) ⌝ }
-    ensures { λ r. ⌜ Leaves (recordOf p page kind) at r (now (out .entry)) (now (out .exit)) ⌝ }
+// What a record does to a pool, in place: its frames in a table, its logs, and the rest; its written pages go to `out` from `at` on.
+pub fn play(
+    h: Head,
+    table: &mut [u32; 1024],
+    access: &mut [u32; 1024],
+    write: &mut [u32; 512],
+    page: u32,
+    kind: u16,
+    out: &mut [u32],
+    at: usize,
+) -> Played
+    requires { ⌜ Plays (poolIn h (now table) (now access) (now write)) (recordOf (poolIn h (now table) (now access) (now write)) page kind) at (length (now out)) ⌝ }
+    ensures { λ r. ⌜ Leaves (recordOf (poolIn h (now (table .entry)) (now (access .entry)) (now (write .entry))) page kind) at r (now (table .exit)) (now (access .exit)) (now (write .exit)) (now (out .entry)) (now (out .exit)) ⌝ }
 {
-    let frames = p.frames;
-    let found = reference::find(frames, page);
-    let free = reference::free_for(frames, p.settings.frames, found);
-    let fr = frames[place_of(found)];
-    let row = settle(p.k, found, fr.pins, free, kind);
+    let found = reference::find(table, page);
+    let free = reference::free_for(table, h.settings.frames, found);
+    let old = table::frame_at(table, place_of(found));
+    let row = settle(h.k, found, old.pins, free, kind);
     if row.outcome == tally::MISS_CLEAN {
-        return play_full(p, page, kind, out, at);
+        return play_full(h, table, access, write, page, kind, out, at);
     }
-    let left = enter(p, row, page, kind);
-    Effect {
+    let left = enter(h, table, access, write, row, page, kind);
+    Played {
         row: row,
-        pool: left,
+        head: left,
     }
 }

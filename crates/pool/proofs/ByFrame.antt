@@ -14,7 +14,7 @@ use Rattle.pool.specs.declared.Frame.{Frame}
 use Rattle.pool.specs.declared.Pool.{Pool}
 use Rattle.pool.specs.Pool.{referenceLimit, frameAt, emptyFrame, epochAt, lastEpochOf}
 use Rattle.pool.specs.Sound.{soundLog, zeroFrame, countCapped, accessLogSound, writeLogSound, soundPool, checkOf}
-use Rattle.pool.specs.ByFrame.{pairAt, pairsSound, fieldsSound, besideSound, frameSound}
+use Rattle.pool.specs.ForCode.{pairAt, pairsSound, fieldsSound, besideSound, frameSound}
 use Rattle.pool.proofs.Sound.{both, or-right, zero-empty, log-told, SoundFrame, told, made, capped-of, access-of, write-of}
 
 -- two numbers that are tested to differ

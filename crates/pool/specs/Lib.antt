@@ -1,3 +1,3 @@
 pub mod Pool
 pub mod Sound
-pub mod ByFrame
+pub mod ForCode

@@ -19,11 +19,11 @@ referenceLimit = 50000
 abbrev pub frameRoom : ℕ
 frameRoom = 128
 
--- an access log of up to 8 epochs and a write log of up to 4
+-- an access log of up to 8 epochs
 abbrev pub accessRoom : ℕ
 accessRoom = 8
 
--- the latter
+-- and a write log of up to 4
 abbrev pub writeRoom : ℕ
 writeRoom = 4
 
@@ -34,14 +34,6 @@ emptyFrame = record { used = false; page = 0; dirty = false; pins = 0; count = 0
 -- frame i; past the last, an empty one
 abbrev pub frameAt : List Frame → ℕ → Frame
 frameAt fs i = getD fs i emptyFrame
-
--- a frame with another clock count
-abbrev pub withCount : Frame → ℕ → Frame
-withCount fr n = record { used = fr .used; page = fr .page; dirty = fr .dirty; pins = fr .pins; count = n; last = fr .last; accesses = fr .accesses; writes = fr .writes }
-
--- a frame with another page
-abbrev pub withPage : Frame → ℕ → Frame
-withPage fr page = record { used = fr .used; page = page; dirty = fr .dirty; pins = fr .pins; count = fr .count; last = fr .last; accesses = fr .accesses; writes = fr .writes }
 
 -- a fresh pool has no frame in use, and k and hand 0; its sampler number is the seed
 unfoldable pub emptyPool : Settings → Pool
@@ -59,10 +51,6 @@ emptyPool s = record {
 abbrev pub oneFrame : Settings
 oneFrame = record { rule = 0; frames = 1; batch = 1; cap = 1; sample = 1; weight = 0; epoch = 1; seed = 0 }
 
--- the pool with other frames
-abbrev pub withFrames : Pool → List Frame → Pool
-withFrames p fs = record { settings = p .settings; k = p .k; hand = p .hand; sampler = p .sampler; frames = fs; access = p .access; write = p .write }
-
 -- a refusal or 0, and a pool
 abbrev pub opened : ℕ → Pool → Opened
 opened r p = record { refusal = r; pool = p }
@@ -79,6 +67,18 @@ epochAt s step = step / s .epoch
 unfoldable pub nowOf : Pool → ℕ
 nowOf p = epochAt (p .settings) (p .k)
 
--- a last step's epoch likewise
+-- a last step's epoch likewise: of frame i
 unfoldable pub lastEpochOf : Pool → ℕ → ℕ
 lastEpochOf p i = epochAt (p .settings) (frameAt (p .frames) i .last)
+
+-- a frame with another clock count
+abbrev pub withCount : Frame → ℕ → Frame
+withCount fr n = record { used = fr .used; page = fr .page; dirty = fr .dirty; pins = fr .pins; count = n; last = fr .last; accesses = fr .accesses; writes = fr .writes }
+
+-- a frame with another page
+abbrev pub withPage : Frame → ℕ → Frame
+withPage fr page = record { used = fr .used; page = page; dirty = fr .dirty; pins = fr .pins; count = fr .count; last = fr .last; accesses = fr .accesses; writes = fr .writes }
+
+-- the pool with other frames
+abbrev pub withFrames : Pool → List Frame → Pool
+withFrames p fs = record { settings = p .settings; k = p .k; hand = p .hand; sampler = p .sampler; frames = fs; access = p .access; write = p .write }

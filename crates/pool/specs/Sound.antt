@@ -60,7 +60,7 @@ module _ (p : Pool) (i : ℕ) where
   abbrev pub withinFrames : Bool
   withinFrames = whenever used (ltb i (p .settings .frames))
 
-  -- and hold distinct pages
+  -- frames in use hold distinct pages
   abbrev pub distinctPage : Bool
   distinctPage = whenever used (everyBelow (λ j. not (holdsPage (frameAt (p .frames) i .page) (frameAt (p .frames) j))) i)
 
@@ -76,7 +76,7 @@ module _ (p : Pool) (i : ℕ) where
   abbrev pub lastBelow : Bool
   lastBelow = whenever used (ltb (frameAt (p .frames) i .last) (p .k))
 
-  -- and distinct
+  -- last steps distinct
   abbrev pub distinctLast : Bool
   distinctLast = whenever used (everyBelow (λ j. not (lastAt (frameAt (p .frames) i .last) (frameAt (p .frames) j))) i)
 

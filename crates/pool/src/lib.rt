@@ -5,9 +5,9 @@ ghost use mathlib.Core.Bool.{true};
 ghost use Prim.Native.Nat.{_+_, _*_, _<_, _≤_};
 ghost use lib.ListN.{length};
 ghost use Rattle.search.specs.Search.{everyBelow};
-ghost use Rattle.pool.specs.Pool.{oneFrame, emptyPool, freshOf, nowOf};
+ghost use Rattle.pool.specs.Pool.{oneFrame, emptyPool, freshOf};
 ghost use Rattle.pool.specs.Sound.{placeSound, soundLog, zeroFrame, checkOf};
-ghost use Rattle.pool.specs.ByFrame.{pairSound, pairsSound, fieldsSound, besideSound, frameSound};
+ghost use Rattle.pool.specs.ForCode.{pairSound, pairsSound, fieldsSound, besideSound, frameSound};
 
 // The greatest number of accepted references.
 pub const REFERENCE_LIMIT: u32 = 50000;
@@ -97,14 +97,6 @@ pub fn fresh(settings: Settings) -> Opened
         refusal: refusal::OUT_OF_RANGE,
         pool: small,
     }
-}
-
-// Now: the epoch of the next reference.
-pub fn now_of(p: Pool) -> u32
-    requires { ⌜ 0 < p .settings .epoch ⌝ }
-    ensures { λ r. ⌜ r ≡ nowOf p ⌝ }
-{
-    p.k / p.settings.epoch
 }
 
 // Whether the number t at place j of a log of n entries may stand there, `newer` before it.

@@ -1,9 +1,9 @@
 pub mod Places
 pub mod Logs
-pub mod Built
 pub mod Logged
 pub mod Ready
 pub mod Keeps
 pub mod Others
 pub mod Referred
+pub mod Lowest
 pub mod Free

@@ -1,3 +1,4 @@
 pub mod Search
 pub mod Logs
 pub mod Reference
+pub mod ForCode

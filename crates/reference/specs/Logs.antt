@@ -27,6 +27,6 @@ stays on n newest epoch = not on || (ltb 0 n && eqb newest epoch)
 unfoldable pub lengthWith : List ℕ → ℕ → ℕ → ℕ → ℕ → Bool → ℕ
 lengthWith a at room n epoch on = pick (stays on n (getD a at 0) epoch) n (grown room n)
 
--- and the array
+-- the array of the logs afterwards
 unfoldable pub logWith : List ℕ → ℕ → ℕ → ℕ → ℕ → Bool → List ℕ
 logWith a at room n epoch on = pick (stays on n (getD a at 0) epoch) a (putFront a at (grown room n) epoch)

@@ -1,18 +1,11 @@
 -- Reference: the bookkeeping of a hit, of a fetch, of a pin and of an unpin.
-use Prim.Native.Nat.{ℕ, _+_, _-_, _*_, _≤_, _<_, min}
+use Prim.Native.Nat.{ℕ, _+_, _-_, _*_, min}
 use mathlib.Core.Bool.{Bool, true, false, _||_}
 use lib.ListN.{set}
 use Rattle.pool.specs.declared.Frame.{Frame}
 use Rattle.pool.specs.declared.Pool.{Pool}
-use Rattle.pool.specs.Pool.{referenceLimit, accessRoom, writeRoom, frameAt, withCount, nowOf}
+use Rattle.pool.specs.Pool.{accessRoom, writeRoom, frameAt, withCount, nowOf}
 use Rattle.reference.specs.Logs.{cleared, lengthWith, logWith}
-
--- what the bookkeeping asks: a frame, room for one reference more, an epoch length and a cap in range
-pub record Referable (p : Pool) (i : ℕ) : Type 0 where
-  pub frame : i < 128
-  pub room : p .k < referenceLimit
-  pub epoch : 0 < p .settings .epoch
-  pub cap : p .settings .cap ≤ 7
 
 -- the pool with another frame i
 abbrev pub withFrame : Pool → ℕ → Frame → Pool
@@ -21,14 +14,6 @@ withFrame p i fr = record { settings = p .settings; k = p .k; hand = p .hand; sa
 -- a frame with another pin count
 abbrev pub withPins : Frame → ℕ → Frame
 withPins fr n = record { used = fr .used; page = fr .page; dirty = fr .dirty; pins = n; count = fr .count; last = fr .last; accesses = fr .accesses; writes = fr .writes }
-
--- a hit raises the clock count by 1 up to the cap
-abbrev pub raised : ℕ → ℕ → ℕ
-raised cap n = min (n + 1) cap
-
--- a fetched page starts with empty logs, clean, unpinned, clock count 1
-abbrev pub newFrame : ℕ → Frame
-newFrame page = record { used = true; page = page; dirty = false; pins = 0; count = 1; last = 0; accesses = 0; writes = 0 }
 
 -- last step becomes the old k; the logs are as long as they are then; a write sets dirty
 abbrev pub referredFrame : Pool → ℕ → Bool → Frame
@@ -55,9 +40,17 @@ referred p i write = record {
   write = logWith (p .write) (i * writeRoom) writeRoom (frameAt (p .frames) i .writes) (nowOf p) write;
 }
 
+-- a hit raises the clock count by 1 up to the cap
+abbrev pub raised : ℕ → ℕ → ℕ
+raised cap n = min (n + 1) cap
+
 -- a hit in frame i
 unfoldable pub hitAt : Pool → ℕ → Bool → Pool
 hitAt p i write = referred (withFrame p i (withCount (frameAt (p .frames) i) (raised (p .settings .cap) (frameAt (p .frames) i .count)))) i write
+
+-- a fetched page starts with empty logs, clean, unpinned, clock count 1
+abbrev pub newFrame : ℕ → Frame
+newFrame page = record { used = true; page = page; dirty = false; pins = 0; count = 1; last = 0; accesses = 0; writes = 0 }
 
 -- frame i with a page that is fetched, its logs empty
 abbrev pub emptied : Pool → ℕ → ℕ → Pool

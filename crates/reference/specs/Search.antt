@@ -2,9 +2,8 @@
 use Prim.Native.Nat.{ℕ}
 use mathlib.Core.Bool.{Bool, not}
 use mathlib.Core.List.{List}
-use Rattle.search.specs.Search.{onFound, leastBelow, never}
+use Rattle.search.specs.Search.{leastBelow, never}
 use Rattle.search.specs.declared.Found.{Found}
-use Rattle.search.specs.declared.Found.the-variants.{Nothing}
 use Rattle.pool.specs.declared.Frame.{Frame}
 use Rattle.pool.specs.declared.Pool.{Pool}
 use Rattle.pool.specs.Pool.{frameRoom, frameAt}
@@ -25,11 +24,3 @@ unused fs i = not (frameAt fs i .used)
 -- the lowest unused frame below f
 unfoldable pub lowestUnused : Pool → Found
 lowestUnused p = leastBelow (unused (p .frames)) never (p .settings .frames)
-
--- the lowest unused of some frames below f, looked for only where a page was not found
-abbrev pub freeIn : List Frame → ℕ → Found → Found
-freeIn fs f found = onFound found (λ _. Nothing) (leastBelow (unused fs) never f)
-
--- of a pool
-abbrev pub freeFor : Pool → Found → Found
-freeFor p found = onFound found (λ _. Nothing) (lowestUnused p)

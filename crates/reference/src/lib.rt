@@ -1,17 +1,16 @@
-// A reference: the search for its frame, the logs, and the bookkeeping of a hit, a fetch, a pin and an unpin.
+// A reference: the search for its frame, its logs and its clock count.
 use pool::Frame;
-use pool::Pool;
 use search::Found;
 ghost use mathlib.Core.Path.{_≡_};
-ghost use mathlib.Core.Bool.{true};
 ghost use Prim.Native.Nat.{_+_, _*_, _<_, _≤_};
 ghost use lib.ListN.{length};
 ghost use Rattle.search.specs.Search.{pick, onFound};
 ghost use Rattle.pool.specs.Sound.{holdsPage};
-ghost use Rattle.reference.specs.Search.{findPage, freeIn};
+ghost use Rattle.table.specs.Table.{framesIn};
+ghost use Rattle.reference.specs.Search.{findPage};
+ghost use Rattle.reference.specs.ForCode.{onePast, DistinctPages, freeIn, UsedLowest};
 ghost use Rattle.reference.specs.Logs.{putFront, cleared, grown, stays, lengthWith, logWith};
-ghost use Rattle.reference.specs.Reference.{Referable, raised, referred, hitAt, fetchedAt, pinnedAt, unpinnedAt};
-ghost use Rattle.pool.specs.Pool.{frameAt};
+ghost use Rattle.reference.specs.Reference.{raised};
 
 // Whether a frame is in use and holds the page.
 fn holds(fr: Frame, page: u32) -> bool
@@ -20,45 +19,65 @@ fn holds(fr: Frame, page: u32) -> bool
     fr.used & (fr.page == page)
 }
 
-// The frame in use that holds the page. It takes the frames and not the pool, which would be copied whole.
-pub fn find(frames: [Frame; 128], page: u32) -> Found
-    ensures { λ r. ⌜ r ≡ findPage frames page ⌝ }
+// One past i where it is such, else 0.
+fn one_past(such: bool, i: u32) -> u32
+    requires { ⌜ i < 128 ⌝ }
+    ensures { λ r. ⌜ (r ≡ onePast such i) × (r ≤ 128) ⌝ }
 {
-    let mut i: usize = 0;
-    while i < 128 {
-        let fr = frames[i];
-        if holds(fr, page) {
-            return Found::At(i);
-        }
-        i += 1;
+    if such {
+        return i + 1;
     }
-    Found::Nothing
+    0
 }
 
-// How many frames to look through for an unused one: none where the page was found.
-fn to_look_through(found: Found, f: usize) -> usize
-    ensures { λ r. ⌜ r ≡ onFound found (λ _. 0) f ⌝ }
+// The frame in use that holds the page. No two hold one page, so a sum over all frames finds it: with no way out of the loop, several are
+// compared at once.
+pub fn find(table: &[u32; 1024], page: u32) -> Found
+    requires { ⌜ DistinctPages (framesIn (now table)) ⌝ }
+    ensures { λ r. ⌜ r ≡ findPage (framesIn (now (table .entry))) page ⌝ }
+{
+    let mut past: u32 = 0;
+    let mut i: u32 = 0;
+    while i < 128 {
+        let fr = table::frame_at(table, i as usize);
+        past = past + one_past(holds(fr, page), i);
+        i += 1;
+    }
+    if past == 0 {
+        return Found::Nothing;
+    }
+    Found::At(past as usize - 1)
+}
+
+// How many frames to look through for an unused one: none where the page was found, or the last frame is in use, and so all are.
+fn to_look_through(found: Found, full: bool, f: usize) -> usize
+    ensures { λ r. ⌜ r ≡ onFound found (λ _. 0) (pick full 0 f) ⌝ }
 {
     match found {
         Found::At(_) => 0,
-        Found::Nothing => f,
+        Found::Nothing => {
+            if full {
+                return 0;
+            }
+            f
+        }
     }
 }
 
 // The lowest unused frame below f, looked for only where the page was not found.
-pub fn free_for(frames: [Frame; 128], f: u16, found: Found) -> Found
-    requires { ⌜ f ≤ 128 ⌝ }
-    ensures { λ r. ⌜ r ≡ freeIn frames f found ⌝ }
+pub fn free_for(table: &[u32; 1024], f: u16, found: Found) -> Found
+    requires { ⌜ (0 < f) × (f ≤ 128) × UsedLowest (framesIn (now table)) ⌝ }
+    ensures { λ r. ⌜ r ≡ freeIn (framesIn (now (table .entry))) f found ⌝ }
 {
-    let n = to_look_through(found, f as usize);
+    let last = table::frame_at(table, f as usize - 1);
+    let n = to_look_through(found, last.used, f as usize);
     let mut i: usize = 0;
     while i < n {
-        let fr = frames[i];
-        if fr.used {
-            i += 1;
-        } else {
+        let fr = table::frame_at(table, i);
+        if !fr.used {
             return Found::At(i);
         }
+        i += 1;
     }
     Found::Nothing
 }
@@ -130,34 +149,6 @@ fn put_epoch(a: &mut [u32], at: usize, room: u8, n: u8, epoch: u32, on: bool) ->
     m
 }
 
-fn put_access(a: &mut [u32; 1024], i: usize, n: u8, epoch: u32) -> u8
-    requires { ⌜ i < 128 ⌝ }
-    ensures { λ r. ⌜ (r ≡ lengthWith (now (a .entry)) (i * 8) 8 n epoch true) × (now (a .exit) ≡ logWith (now (a .entry)) (i * 8) 8 n epoch true) ⌝ }
-{
-    put_epoch(a, i * 8, 8, n, epoch, true)
-}
-
-fn put_write(a: &mut [u32; 512], i: usize, n: u8, epoch: u32, on: bool) -> u8
-    requires { ⌜ i < 128 ⌝ }
-    ensures { λ r. ⌜ (r ≡ lengthWith (now (a .entry)) (i * 4) 4 n epoch on) × (now (a .exit) ≡ logWith (now (a .entry)) (i * 4) 4 n epoch on) ⌝ }
-{
-    put_epoch(a, i * 4, 4, n, epoch, on)
-}
-
-fn clear_access(a: &mut [u32; 1024], i: usize)
-    requires { ⌜ i < 128 ⌝ }
-    ensures { λ r. ⌜ now (a .exit) ≡ cleared (now (a .entry)) (i * 8) 8 ⌝ }
-{
-    clear(a, i * 8, 8);
-}
-
-fn clear_write(a: &mut [u32; 512], i: usize)
-    requires { ⌜ i < 128 ⌝ }
-    ensures { λ r. ⌜ now (a .exit) ≡ cleared (now (a .entry)) (i * 4) 4 ⌝ }
-{
-    clear(a, i * 4, 4);
-}
-
 // Frame i's access log of n entries: cleared where its page is fetched, and the epoch put at its front where it is referred to; its length then.
 pub fn enter_access(a: &mut [u32; 1024], i: usize, n: u8, epoch: u32, fetch: bool, on: bool) -> u8
     requires { ⌜ i < 128 ⌝ }
@@ -182,78 +173,4 @@ pub fn raise(cap: u16, n: u8) -> u8
     ensures { λ r. ⌜ r ≡ raised cap n ⌝ }
 {
     if (n as u16) < cap { n + 1 } else { cap as u8 }
-}
-
-// What every reference to frame i does: last step, k, the logs, and dirty for a write.
-fn refer(p: Pool, i: usize, write: bool) -> Pool
-    requires { ⌜ Referable p i ⌝ }
-    ensures { λ r. ⌜ r ≡ referred p i write ⌝ }
-{
-    let epoch = pool::now_of(p);
-    let mut q = p;
-    let mut fr = q.frames[i];
-    fr.accesses = put_access(&mut q.access, i, fr.accesses, epoch);
-    fr.writes = put_write(&mut q.write, i, fr.writes, epoch, write);
-    fr.dirty = fr.dirty | write;
-    fr.last = q.k;
-    q.frames[i] = fr;
-    q.k = q.k + 1;
-    q
-}
-
-// The pool after a hit in frame i.
-pub fn hit(p: Pool, i: usize, write: bool) -> Pool
-    requires { ⌜ Referable p i ⌝ }
-    ensures { λ r. ⌜ r ≡ hitAt p i write ⌝ }
-{
-    let mut q = p;
-    let mut fr = q.frames[i];
-    fr.count = raise(q.settings.cap, fr.count);
-    q.frames[i] = fr;
-    refer(q, i, write)
-}
-
-// The pool after a page is fetched into frame i.
-pub fn fetch(p: Pool, i: usize, page: u32, write: bool) -> Pool
-    requires { ⌜ Referable p i ⌝ }
-    ensures { λ r. ⌜ r ≡ fetchedAt p i page write ⌝ }
-{
-    let mut q = p;
-    q.frames[i] = Frame {
-        used: true,
-        page: page,
-        dirty: false,
-        pins: 0,
-        count: 1,
-        last: 0,
-        accesses: 0,
-        writes: 0,
-    };
-    clear_access(&mut q.access, i);
-    clear_write(&mut q.write, i);
-    refer(q, i, write)
-}
-
-// The pool with one pin more on frame i.
-pub fn pin(p: Pool, i: usize) -> Pool
-    requires { ⌜ (i < 128) × (frameAt (p .frames) i .pins < 255) ⌝ }
-    ensures { λ r. ⌜ r ≡ pinnedAt p i ⌝ }
-{
-    let mut q = p;
-    let mut fr = q.frames[i];
-    fr.pins = fr.pins + 1;
-    q.frames[i] = fr;
-    q
-}
-
-// The pool with one pin less on frame i.
-pub fn unpin(p: Pool, i: usize) -> Pool
-    requires { ⌜ (i < 128) × (0 < frameAt (p .frames) i .pins) ⌝ }
-    ensures { λ r. ⌜ r ≡ unpinnedAt p i ⌝ }
-{
-    let mut q = p;
-    let mut fr = q.frames[i];
-    fr.pins = fr.pins - 1;
-    q.frames[i] = fr;
-    q
 }

@@ -20,8 +20,7 @@ use Rattle.pool.proofs.Sound.{Sound, dirty-used}
 use Rattle.reference.specs.Search.{findPage, lowestUnused}
 use Rattle.reference.specs.Reference.{hitAt}
 use Rattle.reference.proofs.Keeps.{none-unused}
-use Rattle.victim.specs.declared.Choice.{Choice}
-use Rattle.victim.specs.Choice.{leftBy}
+use Rattle.victim.specs.Choice.{Choice, leftBy}
 use Rattle.victim.specs.Rules.{choiceOf}
 use Rattle.victim.proofs.Owed.{repagedChoice}
 use Rattle.victim.proofs.Rules.{choice-owes}

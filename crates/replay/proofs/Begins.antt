@@ -6,7 +6,8 @@ use Rattle.refusal.specs.Refusals.{demand, notSound}
 use Rattle.pool.specs.declared.Pool.{Pool}
 use Rattle.pool.specs.Sound.{soundPool, checkOf}
 use Rattle.tally.specs.declared.Tally.{Tally}
-use Rattle.tally.specs.Tally.{tallyLimit, tallyWithin, Within}
+use Rattle.tally.specs.Tally.{tallyLimit, tallyWithin}
+use Rattle.tally.specs.ForCode.{Within}
 use Rattle.tally.proofs.Laws.{within-bound}
 use Rattle.replay.specs.Calls.{mayBegin}
 

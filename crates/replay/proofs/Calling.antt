@@ -17,7 +17,8 @@ use Rattle.pool.specs.declared.Pool.{Pool}
 use Rattle.tally.specs.declared.Tally.{Tally}
 use Rattle.replay.specs.declared.Ended.{Ended}
 use Rattle.replay.specs.Replay.{replayOf}
-use Rattle.replay.specs.Calls.{mayBegin, roomFor, countsRefusal, replayRefusal, endedAs, endedOf, countsOf, RanInto, ReplayInto}
+use Rattle.replay.specs.Calls.{mayBegin, roomFor, countsRefusal, replayRefusal, endedAs, endedOf, countsOf, ReplayInto}
+use Rattle.replay.specs.ForCode.{RanInto}
 
 -- a demand is the first refusal, else what follows
 demand-or : (b : Bool) (r n : ℕ) → 0 < r → orElse (demand b r 0) n ≡ demand b r n

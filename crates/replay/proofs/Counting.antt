@@ -1,10 +1,11 @@
 -- What the loops know of record i, from what they ask for.
-use mathlib.Core.Path.{_≡_, ap, sym, subst}
+use mathlib.Core.Path.{_≡_, ap, sym, subst, _∙_}
 use mathlib.Core.Bool.{true, and-eq-true-iff}
 use mathlib.Core.List.{List}
 use Prim.Native.Nat.{ℕ, _+_, _*_, _≤_, _<_}
 use native.Mathlib.Omega.{arith}
 use lib.ListN.{length}
+use lib.Seq.{sets}
 use lib.Dec.{leb}
 use borrow.Author.Tests.{leb-true}
 use Rattle.trace.specs.declared.Summary.{Summary}
@@ -21,18 +22,23 @@ use Rattle.pool.specs.Pool.{frameAt}
 use Rattle.pool.specs.Sound.{soundPool}
 use Rattle.pool.proofs.Sound.{Sound, told, made}
 use Rattle.pool.proofs.Sizes.{Sized}
+use Rattle.table.specs.declared.Head.{Head}
+use Rattle.table.specs.Table.{framesIn, headOf, poolIn}
+use Rattle.table.proofs.Held.{opened}
 use Rattle.tally.specs.declared.Tally.{Tally}
-use Rattle.tally.specs.Tally.{tallyLimit, Within, Countable}
+use Rattle.tally.specs.Tally.{tallyLimit}
+use Rattle.tally.specs.ForCode.{Within, Countable}
 use Rattle.tally.proofs.Laws.{within-more, within-countable}
-use Rattle.effect.specs.declared.Effect.{Effect}
 use Rattle.effect.specs.Record.{Did, recordOf, dirtyIn}
-use Rattle.effect.specs.Effect.{effectOf, Plays}
-use Rattle.replay.specs.Replay.{replayTo}
-use Rattle.replay.specs.Calls.{Ready, roomFor}
+use Rattle.effect.specs.ForCode.{Effect, effectOf, Plays}
+use Rattle.replay.specs.declared.Ended.{Ended}
+use Rattle.replay.specs.Replay.{replayTo, replayOf, numbersOf}
+use Rattle.replay.specs.Calls.{roomFor, endedAs, endedOf}
+use Rattle.replay.specs.ForCode.{Ready}
 use Rattle.replay.proofs.Laws.{doing}
 use Rattle.replay.proofs.Begins.{begins-sound, begins-within}
 use Rattle.replay.proofs.Going.{going, doing-few, doing-batch, written-fits}
-use Rattle.replay.proofs.Running.{Counting, Listing, same-doing}
+use Rattle.replay.proofs.Running.{Counting, Listing, same-doing, counting-all, listing-all}
 
 -- an accepted trace has at most 8,000 records
 pub accepted-few : (s : List ℕ) (h : Summary) → checkOf s ≡ Accepted h → h .count ≤ recordLimit
@@ -67,7 +73,7 @@ module _ (p : Pool) (t : Tally) (s : List ℕ) (h : Summary) (z : Sized p) (y : 
 
     -- sixteen places are enough for one batch
     pub count-plays : Plays q (recordOf q (rec .page) (rec .kind)) 0 16
-    count-plays = record { sound = still-sound; room = let f = written-short in omega arith }
+    count-plays = record { sound = still-sound; access = still-sized .access; write = still-sized .write; room = let f = written-short in omega arith }
 
     pub row-batch : (f : Effect) → f ≡ effectOf (recordOf q (rec .page) (rec .kind)) → f .row .batch ≡ length (recordOf q (rec .page) (rec .kind) .written)
     row-batch f x =
@@ -117,3 +123,26 @@ module _ (p : Pool) (t : Tally) (s : List ℕ) (h : Summary) (z : Sized p) (y : 
 
       pub row-room : 4 * i + 4 ≤ rows
       row-room = let n = counts-are s h (y .accepted) .0 in let r = rooms .0 in omega arith
+
+module _ (p : Pool) (g : Head) (tab : List ℕ) (e : g ≡ headOf p) (f : framesIn tab ≡ p .frames) where
+  abbrev first : Pool
+  first = poolIn g tab (p .access) (p .write)
+
+  -- so what a loop asks for, and the sizes, hold of them
+  pub begun : (t : Tally) (s : List ℕ) (h : Summary) → Ready p t s h → Ready first t s h
+  begun t s h y = subst (λ (q : Pool). Ready q t s h) (sym (opened p g tab e f)) y
+
+  pub begun-sized : Sized p → Sized first
+  begun-sized z = subst Sized (sym (opened p g tab e f)) z
+
+  module _ (t : Tally) (trace : Trace) where
+    -- and what it comes to in the end is about the pool
+    pub counted-all : (q left : Pool) (u : Tally) (i : ℕ) → Counting first t trace q u i → left ≡ q → i ≡ length (trace .pages) → _≡_ {A = Ended} (endedAs 0 left u) (endedOf 0 p t (replayOf p t trace))
+    counted-all q left u i c l n = ap (λ (x : Pool). endedAs 0 x u) l ∙ counting-all p t trace q u i (subst (λ (x : Pool). Counting x t trace q u i) (opened p g tab e f) c) n
+
+    pub listed-all : (rows₀ written₀ rows written : List ℕ) (at i : ℕ) → Listing first t trace rows₀ written₀ rows written at i → i ≡ length (trace .pages)
+        → (rows ≡ sets rows₀ 0 (numbersOf (replayOf p t trace .rows))) × (written ≡ sets written₀ 0 (replayOf p t trace .written))
+    listed-all rows₀ written₀ rows written at i c n = listing-all p t trace rows₀ written₀ rows written at i (subst (λ (x : Pool). Listing x t trace rows₀ written₀ rows written at i) (opened p g tab e f) c) n
+
+    pub room-first : (rows written : ℕ) → roomFor p trace rows written ≡ true → roomFor first trace rows written ≡ true
+    room-first rows written h = subst (λ (x : Pool). roomFor x trace rows written ≡ true) (sym (opened p g tab e f)) h

@@ -11,7 +11,8 @@ use Rattle.pool.specs.declared.Pool.{Pool}
 use Rattle.pool.proofs.Sound.{Sound}
 use Rattle.pool.proofs.Sizes.{Sized}
 use Rattle.tally.specs.declared.Tally.{Tally}
-use Rattle.tally.specs.Tally.{tallyLimit, Within, countedBy, pagesIn}
+use Rattle.tally.specs.Tally.{tallyLimit, countedBy, pagesIn}
+use Rattle.tally.specs.ForCode.{Within}
 use Rattle.tally.proofs.Laws.{within-more, within-counted, pages-snoc}
 use Rattle.effect.specs.Record.{Did, dirtyIn}
 use Rattle.effect.proofs.Kept.{Kept, record-kept}

@@ -13,11 +13,10 @@ use Rattle.tally.specs.declared.Row.{Row}
 use Rattle.tally.specs.declared.Tally.{Tally}
 use Rattle.tally.specs.Rows.{rowNumbers}
 use Rattle.tally.specs.Tally.{countedBy}
-use Rattle.effect.specs.declared.Effect.{Effect}
 use Rattle.effect.specs.Record.{Did, recordOf}
-use Rattle.effect.specs.Effect.{effectOf}
+use Rattle.effect.specs.ForCode.{Effect, effectOf}
 use Rattle.replay.specs.declared.Ended.{Ended}
-use Rattle.replay.specs.Replay.{Played, after, replayTo, replayOf, numbersOf}
+use Rattle.replay.specs.Replay.{Played, replayTo, replayOf, numbersOf}
 use Rattle.replay.specs.Calls.{endedAs, endedOf}
 use Rattle.replay.proofs.Laws.{doing, replay-none, replay-more, rows-length, numbers-none, numbers-snoc, numbers-length}
 

@@ -17,11 +17,13 @@ use Rattle.pool.proofs.Sizes.{Sized}
 use Rattle.tally.specs.declared.Row.{Row}
 use Rattle.tally.specs.declared.Tally.{Tally}
 use Rattle.tally.specs.Rows.{refusedRow}
-use Rattle.tally.specs.Tally.{tallyLimit, Countable, countedBy}
+use Rattle.tally.specs.Tally.{tallyLimit, countedBy}
+use Rattle.tally.specs.ForCode.{Countable}
 use Rattle.tally.proofs.Laws.{within-more, within-countable}
-use Rattle.effect.specs.declared.Effect.{Effect}
 use Rattle.effect.specs.Record.{recordOf}
-use Rattle.effect.specs.Effect.{effectOf, Leaves, Plays}
+use Rattle.table.specs.Table.{poolIn}
+use Rattle.effect.specs.declared.Played.{Played}
+use Rattle.effect.specs.ForCode.{Effect, effectOf, Leaves, Plays}
 use Rattle.effect.proofs.Kept.{record-kept}
 use Rattle.replay.specs.Calls.{mayBegin, stepRefusal, StepInto}
 use Rattle.replay.proofs.Begins.{begins-sound, begins-within}
@@ -54,17 +56,17 @@ module _ (p : Pool) (t : Tally) (page kind : ℕ) where
       let m = step-met p t kind places (sym e ∙ h) in
       let s = begins-sound p t (m .0) in
       let k = record-kept p (told p s) z page kind in
-      record { sound = s; room = let f = k .few in let l = m .1 in omega arith }
+      record { sound = s; access = z .access; write = z .write; room = let f = k .few in let l = m .1 in omega arith }
 
-  pub step-countable : (places r : ℕ) (e : Effect) → Sized p → r ≡ stepRefusal p t kind places → r ≡ 0 → e ≡ effectOf (recordOf p page kind) → Countable t (e .row)
-  step-countable places r e z q h x =
-      let m = step-met p t kind places (sym q ∙ h) in
+  pub step-countable : (places r : ℕ) (q : Pool) (e : Effect) → Sized p → r ≡ stepRefusal p t kind places → r ≡ 0 → q ≡ p → e ≡ effectOf (recordOf q page kind) → Countable t (e .row)
+  step-countable places r q e z x h same y =
+      let m = step-met p t kind places (sym x ∙ h) in
       let s = told p (begins-sound p t (m .0)) in
       let k = record-kept p s z page kind in
       let few = ranges (p .settings) (s .settings) .batch .1 in
       let f = k .few in
       let c = k .counted in
-      let same = ap (λ (y : Effect). y .row .batch) x in
+      let batch = ap (λ (f : Effect). f .row .batch) y ∙ ap (λ (x : Pool). recordOf x page kind .row .batch) same in
       within-countable t (e .row) (within-more t tallyLimit 4200000000 (omega arith) (begins-within p t (m .0))) (omega arith)
 
   pub step-refused : (list : List ℕ) (r : ℕ) (w : Row) → r ≡ stepRefusal p t kind (length list) → (r ≡ 0 → ⊥) → w ≡ refusedRow r
@@ -75,8 +77,11 @@ module _ (p : Pool) (t : Tally) (page kind : ℕ) where
       go zero e ne h = absurd (ne refl)
       go (suc n) e ne h = record { answers = rw (← e, h); list-holds = rw (← e) }
 
-  pub step-done : (list list′ : List ℕ) (r : ℕ) (e : Effect) (u : Tally) → r ≡ stepRefusal p t kind (length list) → r ≡ 0 → Leaves (recordOf p page kind) 0 e list list′ → u ≡ countedBy t (e .row)
-      → StepInto p t page kind list (record { refusal = 0; row = e .row; pool = e .pool; tally = u }) list′
-  step-done list list′ r e u q h x y =
-      let z : stepRefusal p t kind (length list) ≡ 0 = sym q ∙ h in
-      record { answers = rw (z, y, x .effect); list-holds = x .list ∙ rw z }
+  pub step-done : (list list′ : List ℕ) (r : ℕ) (q : Pool) (e : Played) (tab access write : List ℕ) (left : Pool) (u : Tally) → r ≡ stepRefusal p t kind (length list) → r ≡ 0
+      → q ≡ p → Leaves (recordOf q page kind) 0 e tab access write list list′ → left ≡ poolIn (e .head) tab access write → u ≡ countedBy t (e .row)
+      → StepInto p t page kind list (record { refusal = 0; row = e .row; pool = left; tally = u }) list′
+  step-done list list′ r q e tab access write left u o h same x d y =
+      let z : stepRefusal p t kind (length list) ≡ 0 = sym o ∙ h in
+      let row = ap (λ (f : Effect). f .row) (x .effect) ∙ ap (λ (v : Pool). recordOf v page kind .row) same in
+      let pool = d ∙ ap (λ (f : Effect). f .pool) (x .effect) ∙ ap (λ (v : Pool). recordOf v page kind .pool) same in
+      record { answers = rw (z, y, pool, row); list-holds = x .list ∙ rw (z, same) }

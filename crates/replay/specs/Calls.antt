@@ -1,7 +1,7 @@
 -- The single step, replay with rows and replay to counts: refusals, answers, and lent lists afterwards.
 use Prim.Native.Nat.{ℕ, zero, suc, _+_, _*_}
 use mathlib.Core.Path.{_≡_}
-use mathlib.Core.Bool.{Bool, true, _&&_}
+use mathlib.Core.Bool.{Bool, _&&_}
 use mathlib.Core.List.{List, []}
 use lib.ListN.{length}
 use lib.Seq.{sets}
@@ -9,9 +9,7 @@ use lib.Dec.{leb}
 use Rattle.refusal.specs.Refusals.{demand, orElse, badField, noRoom, notSound, otherSettings}
 use Rattle.settings.specs.Settings.{sameSettings}
 use Rattle.trace.specs.Layout.{Trace, knownKind, writesIn}
-use Rattle.trace.specs.declared.Summary.{Summary}
-use Rattle.trace.specs.declared.Checked.the-variants.{Accepted}
-use Rattle.trace.specs.Check.{refusalOf, checkOf, traceOf}
+use Rattle.trace.specs.Check.{refusalOf, traceOf}
 use Rattle.pool.specs.declared.Pool.{Pool}
 use Rattle.pool.specs.Sound.{soundPool}
 use Rattle.tally.specs.declared.Tally.{Tally}
@@ -59,7 +57,7 @@ countsRefusal p t s =
 abbrev pub roomFor : Pool → Trace → ℕ → ℕ → Bool
 roomFor p trace rows places = leb (4 * length (trace .pages)) rows && leb (writesIn (trace .kinds) + dirtyIn (p .frames)) places
 
--- then 13
+-- a replay with rows checks 13 after that
 unfoldable pub replayRefusal : Pool → Tally → List ℕ → ℕ → ℕ → ℕ
 replayRefusal p t s rows places = orElse (countsRefusal p t s) (demand (roomFor p (traceOf s) rows places) noRoom 0)
 
@@ -75,17 +73,6 @@ endedOf (suc n) p t r = endedAs (suc n) p t
 -- replay to counts
 unfoldable pub countsOf : Pool → Tally → List ℕ → Ended
 countsOf p t s = endedOf (countsRefusal p t s) p t (replayOf p t (traceOf s))
-
--- what the loops ask: a replay that may begin, of an accepted trace
-pub record Ready (p : Pool) (t : Tally) (s : List ℕ) (h : Summary) : Type 0 where
-  pub begins : mayBegin p t ≡ true
-  pub accepted : checkOf s ≡ Accepted h
-
--- and leave
-pub record RanInto (p : Pool) (t : Tally) (s rows written : List ℕ) (r : Ended) (rows′ written′ : List ℕ) : Type 0 where
-  pub answers : r ≡ endedOf 0 p t (replayOf p t (traceOf s))
-  pub rows-hold : rows′ ≡ sets rows 0 (numbersOf (replayOf p t (traceOf s) .rows))
-  pub written-hold : written′ ≡ sets written 0 (replayOf p t (traceOf s) .written)
 
 -- replay with rows: its answer, and every place of both lent lists
 pub record ReplayInto (p : Pool) (t : Tally) (s rows written : List ℕ) (r : Ended) (rows′ written′ : List ℕ) : Type 0 where

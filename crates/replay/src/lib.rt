@@ -13,7 +13,8 @@ ghost use Rattle.settings.specs.Settings.{sameSettings};
 ghost use Rattle.trace.specs.Check.{checkOf, traceOf};
 ghost use Rattle.effect.specs.Record.{dirtyIn};
 ghost use Rattle.replay.specs.Replay.{replayOf};
-ghost use Rattle.replay.specs.Calls.{mayBegin, stepRefusal, StepInto, roomFor, endedAs, endedOf, countsOf, ReplayInto, Ready, RanInto};
+ghost use Rattle.replay.specs.Calls.{mayBegin, stepRefusal, StepInto, roomFor, endedAs, endedOf, countsOf, ReplayInto};
+ghost use Rattle.replay.specs.ForCode.{Ready, RanInto};
 
 // What a step gives: a refusal or 0, its row, and pool and tally afterwards.
 pub struct Stepped {
@@ -62,10 +63,23 @@ pub fn step(pool: Pool, tally: Tally, page: u32, kind: u16, written: &mut [u32])
             tally: tally,
         };
     }
-    let e = effect::play(pool, page, kind, written, 0);
+    let h = table::head_of(pool);
+    let mut table = table::table_of(pool);
+    let mut access = pool.access;
+    let mut write = pool.write;
+    let e = effect::play(
+        h,
+        &mut table,
+        &mut access,
+        &mut write,
+        page,
+        kind,
+        written,
+        0,
+    );
     let row = e.row;
     let after = tally::raised(tally, row);
-    let left = e.pool;
+    let left = table::pool_of(e.head, &table, access, write);
     Stepped {
         refusal: 0,
         row: row,
@@ -99,7 +113,8 @@ fn ending(r: u32, pool: Pool, tally: Tally) -> Ended
     }
 }
 
-// Every record of an accepted trace, with rows and written pages.
+// Every record of an accepted trace, with rows and written pages. Frames and logs are changed where they stand, since a pool handed over and
+// back is a copy of it each time.
 fn run(
     pool: Pool,
     tally: Tally,
@@ -112,69 +127,72 @@ fn run(
     ensures { λ r. ⌜ RanInto pool tally (now (bytes .entry)) (now (rows .entry)) (now (written .entry)) r (now (rows .exit)) (now (written .exit)) ⌝ }
 {
     let n = summary.count as usize;
-    let mut q = pool;
+    let mut h = table::head_of(pool);
+    let mut table = table::table_of(pool);
+    let mut access = pool.access;
+    let mut write = pool.write;
     let mut t = tally;
     let mut at: usize = 0;
     let mut i: usize = 0;
     while i < n {
         let record = trace::record_at(bytes, summary, i);
-        let e = effect::play(q, record.page, record.kind, written, at);
+        let page = record.page;
+        let kind = record.kind;
+        let e = effect::play(
+            h,
+            &mut table,
+            &mut access,
+            &mut write,
+            page,
+            kind,
+            written,
+            at,
+        );
         let row = e.row;
         tally::put_row(rows, 4 * i, row);
         t = tally::counted(t, row);
         at = at + row.batch as usize;
-        q = e.pool;
+        h = e.head;
         i += 1;
     }
-    Ended {
-        refusal: 0,
-        pool: q,
-        tally: t,
-    }
+    let left = table::pool_of(h, &table, access, write);
+    ending(0, left, t)
 }
 
-// Every record of an accepted trace, counted only: the pages of one batch are written over those of the one before. It works
-// as `effect::play` does, on its own pool in place: a pool handed over and back is a copy of it each time.
+// Every record of an accepted trace, counted only: the pages of one batch are written over those of the one before.
 fn count(pool: Pool, tally: Tally, bytes: &[u8], summary: Summary) -> Ended
     requires { ⌜ Ready pool tally (now bytes) summary ⌝ }
     ensures { λ r. ⌜ r ≡ endedOf 0 pool tally (replayOf pool tally (traceOf (now (bytes .entry)))) ⌝ }
 {
     let n = summary.count as usize;
     let mut scratch = [0u32; 16];
-    let mut q = pool;
+    let mut h = table::head_of(pool);
+    let mut table = table::table_of(pool);
+    let mut access = pool.access;
+    let mut write = pool.write;
     let mut t = tally;
     let mut i: usize = 0;
     while i < n {
         let record = trace::record_at(bytes, summary, i);
-        let frames = q.frames;
         let page = record.page;
         let kind = record.kind;
-        let found = reference::find(frames, page);
-        let free = reference::free_for(frames, q.settings.frames, found);
-        let old = frames[effect::place_of(found)];
-        let mut row = effect::settle(q.k, found, old.pins, free, kind);
-        if row.outcome == tally::MISS_CLEAN {
-            let room = effect::make_room(q, &mut scratch, 0);
-            let left = room.frames;
-            q.hand = room.hand;
-            q.sampler = room.sampler;
-            q.frames = left;
-            row = room.row;
-        }
-        let refer = row.outcome <= tally::MISS_DIRTY;
-        let fetch = (tally::MISS_UNUSED <= row.outcome) & refer;
-        let write = refer & (kind == 1);
-        let epoch = pool::now_of(q);
-        let at = row.frame as usize;
-        let mut fr = effect::entering(q.frames[at], row.outcome, page, kind, q.settings.cap, q.k);
-        fr.accesses = reference::enter_access(&mut q.access, at, fr.accesses, epoch, fetch, refer);
-        fr.writes = reference::enter_write(&mut q.write, at, fr.writes, epoch, fetch, write);
-        q.frames[at] = fr;
-        q.k = q.k + tally::one_if(refer);
+        let e = effect::play(
+            h,
+            &mut table,
+            &mut access,
+            &mut write,
+            page,
+            kind,
+            &mut scratch,
+            0,
+        );
+        let row = e.row;
         t = tally::counted(t, row);
+        h = e.head;
         i += 1;
     }
-    ending(0, q, t)
+    let left = table::pool_of(h, &table, access, write);
+    ending(0, left, t)
 }
 
 // An accepted trace: 15, then its records.

@@ -10,7 +10,8 @@ use lib.ListN.{length}
 use borrow.Author.Tests.{leb-true}
 use Rattle.search.specs.Search.{oneIf}
 use Rattle.tally.specs.Rows.{rowNumbers, isHit, isMiss, isEviction, isBatch, isRefused}
-use Rattle.tally.specs.Tally.{tallyLimit, tallyWithin, countedBy, Within, Countable, howMany, pagesIn, countedRows}
+use Rattle.tally.specs.Tally.{tallyLimit, tallyWithin, countedBy, howMany, pagesIn, countedRows}
+use Rattle.tally.specs.ForCode.{Within, Countable}
 use Rattle.tally.specs.declared.Row.{Row}
 use Rattle.tally.specs.declared.Tally.{Tally}
 

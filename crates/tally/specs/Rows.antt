@@ -5,6 +5,10 @@ use mathlib.Core.List.{List, [], _∷_}
 use lib.Dec.{eqb, leb}
 use Rattle.tally.specs.declared.Row.{Row}
 
+-- "a row is four numbers: outcome, frame, page that left, batch length"
+abbrev pub row : ℕ → ℕ → ℕ → ℕ → Row
+row outcome frame left batch = record { outcome = outcome; frame = frame; left = left; batch = batch }
+
 -- "0 hit"
 abbrev pub hit : ℕ
 hit = 0
@@ -28,10 +32,6 @@ unpinned = 4
 -- "100 + r for refusal r"
 abbrev pub refusedBy : ℕ → ℕ
 refusedBy r = 100 + r
-
--- "a row is four numbers: outcome, frame, page that left, batch length"
-abbrev pub row : ℕ → ℕ → ℕ → ℕ → Row
-row outcome frame left batch = record { outcome = outcome; frame = frame; left = left; batch = batch }
 
 -- the row of a refused record: "numbers without a meaning are 0"
 abbrev pub refusedRow : ℕ → Row

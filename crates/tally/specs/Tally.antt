@@ -1,5 +1,5 @@
 -- The tally: six counts, and how rows raise them.
-use Prim.Native.Nat.{ℕ, _+_, _≤_}
+use Prim.Native.Nat.{ℕ, _+_}
 use mathlib.Core.Bool.{Bool, _&&_}
 use mathlib.Core.List.{List, [], _∷_}
 use lib.Dec.{leb}
@@ -12,20 +12,6 @@ use Rattle.tally.specs.Rows.{isHit, isMiss, isEviction, isBatch, isRefus
 abbrev pub zeroTally : Tally
 zeroTally = record { hits = 0; misses = 0; evictions = 0; batches = 0; written = 0; refused = 0 }
 
--- refusal 14 is given for "a count of the tally handed in above 4,000,000,000"
-abbrev pub tallyLimit : ℕ
-tallyLimit = 4000000000
-
--- no count is above the limit
-unfoldable pub tallyWithin : Tally → Bool
-tallyWithin t =
-    leb (t .hits) tallyLimit
-    && (leb (t .misses) tallyLimit
-    && (leb (t .evictions) tallyLimit
-    && (leb (t .batches) tallyLimit
-    && (leb (t .written) tallyLimit
-    && leb (t .refused) tallyLimit))))
-
 -- "a running tally of six counts": each rises by one where the row is such an outcome, the pages written by the row's batch length
 unfoldable pub countedBy : Tally → Row → Tally
 countedBy t w = record {
@@ -36,20 +22,6 @@ countedBy t w = record {
   written = t .written + w .batch;
   refused = t .refused + oneIf (isRefused w);
 }
-
--- each count at most m
-pub record Within (t : Tally) (m : ℕ) : Type 0 where
-  pub hits : t .hits ≤ m
-  pub misses : t .misses ≤ m
-  pub evictions : t .evictions ≤ m
-  pub batches : t .batches ≤ m
-  pub written : t .written ≤ m
-  pub refused : t .refused ≤ m
-
--- what counting a row asks, so that no count wraps 32 bits
-pub record Countable (t : Tally) (w : Row) : Type 0 where
-  pub counts : Within t 4200000000
-  pub batch : w .batch ≤ 65536
 
 -- how many rows of a list are such
 abbrev pub howMany : (Row → Bool) → List Row → ℕ
@@ -71,3 +43,17 @@ countedRows t ws = record {
   written = t .written + pagesIn ws;
   refused = t .refused + howMany isRefused ws;
 }
+
+-- refusal 14 is given for "a count of the tally handed in above 4,000,000,000"
+abbrev pub tallyLimit : ℕ
+tallyLimit = 4000000000
+
+-- no count is above the limit
+unfoldable pub tallyWithin : Tally → Bool
+tallyWithin t =
+    leb (t .hits) tallyLimit
+    && (leb (t .misses) tallyLimit
+    && (leb (t .evictions) tallyLimit
+    && (leb (t .batches) tallyLimit
+    && (leb (t .written) tallyLimit
+    && leb (t .refused) tallyLimit))))

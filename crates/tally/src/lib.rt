@@ -5,7 +5,8 @@ ghost use lib.ListN.{length};
 ghost use lib.Seq.{sets};
 ghost use Rattle.search.specs.Search.{oneIf};
 ghost use Rattle.tally.specs.Rows.{rowNumbers, refusedRow};
-ghost use Rattle.tally.specs.Tally.{countedBy, tallyWithin, zeroTally, Countable};
+ghost use Rattle.tally.specs.Tally.{countedBy, tallyWithin, zeroTally};
+ghost use Rattle.tally.specs.ForCode.{Countable};
 
 pub struct Row {
     pub outcome: u32,

@@ -12,8 +12,7 @@ use Rattle.pool.specs.declared.Pool.{Pool}
 use Rattle.pool.specs.Pool.{frameAt, emptyFrame, withCount, withPage, withFrames}
 use Rattle.pool.proofs.Sound.{Sound}
 use Rattle.pool.proofs.Quiet.{Alike, Quiet}
-use Rattle.victim.specs.declared.Choice.{Choice}
-use Rattle.victim.specs.Choice.{unpinned, leftBy}
+use Rattle.victim.specs.Choice.{Choice, unpinned, leftBy}
 
 -- every frame below f is pinned
 abbrev pub AllPinned : Pool → Type 0

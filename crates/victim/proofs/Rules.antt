@@ -10,8 +10,7 @@ use Rattle.pool.specs.Pool.{frameAt}
 use Rattle.pool.proofs.Sound.{Sound}
 use Rattle.pool.proofs.Quiet.{Quiet}
 use Rattle.pool.proofs.Sizes.{Sized}
-use Rattle.victim.specs.declared.Choice.{Choice}
-use Rattle.victim.specs.Choice.{unpinned, leftBy}
+use Rattle.victim.specs.Choice.{Choice, unpinned, leftBy}
 use Rattle.victim.specs.Lru.{lruChoice}
 use Rattle.victim.specs.Clock.{clockChoice}
 use Rattle.victim.specs.Watt.{wattChoice}

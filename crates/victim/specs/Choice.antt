@@ -7,11 +7,17 @@ use Rattle.search.specs.declared.Found.{Found}
 use Rattle.pool.specs.declared.Frame.{Frame}
 use Rattle.pool.specs.declared.Pool.{Pool}
 use Rattle.pool.specs.Pool.{frameAt}
-use Rattle.victim.specs.declared.Choice.{Choice}
 
--- victims, always unpinned
+-- whether frame i is unpinned, as victims always are
 abbrev pub unpinned : List Frame → ℕ → Bool
 unpinned fs i = eqb (frameAt fs i .pins) 0
+
+-- what a rule leaves: its victim or none, and hand, sampler number and frames then
+pub record Choice : Type 0 where
+  pub found : Found
+  pub hand : ℕ
+  pub sampler : ℕ
+  pub frames : List Frame
 
 -- what was found, with hand, sampler number and frames as they are
 abbrev pub unmoved : Pool → Found → Choice

@@ -10,24 +10,27 @@ use Rattle.search.specs.Search.{pick, onFound, never, leastBelow}
 use Rattle.pool.specs.declared.Frame.{Frame}
 use Rattle.pool.specs.declared.Pool.{Pool}
 use Rattle.pool.specs.Pool.{frameAt, withCount}
-use Rattle.victim.specs.declared.Choice.{Choice}
-use Rattle.victim.specs.Choice.{unpinned, unmoved}
+use Rattle.victim.specs.Choice.{Choice, unpinned, unmoved}
 
--- it rests on a frame with count 0, the victim; victims are always unpinned
-abbrev pub rests : Frame → Bool
-rests fr = eqb (fr .pins) 0 && eqb (fr .count) 0
+-- upward, from f − 1 back to 0
+abbrev pub nextHand : ℕ → ℕ → ℕ
+nextHand f h = pick (ltb (h + 1) f) (h + 1) 0
 
 -- a pinned frame is passed untouched; a count above 0 is lowered by 1 and passed
+abbrev pub passedCount : Frame → ℕ
+passedCount fr = pick (eqb (fr .pins) 0) (fr .count - 1) (fr .count)
+
+-- the frame passed
 abbrev pub passedFrame : Frame → Frame
-passedFrame fr = withCount fr (pick (eqb (fr .pins) 0) (fr .count - 1) (fr .count))
+passedFrame fr = withCount fr (passedCount fr)
 
 -- the frames when frame h is passed
 abbrev pub passed : List Frame → ℕ → List Frame
 passed fs h = set fs h (passedFrame (frameAt fs h))
 
--- upward, from f − 1 back to 0
-abbrev pub nextHand : ℕ → ℕ → ℕ
-nextHand f h = pick (ltb (h + 1) f) (h + 1) 0
+-- it rests on a frame with count 0, the victim; victims are always unpinned
+abbrev pub rests : Frame → Bool
+rests fr = eqb (fr .pins) 0 && eqb (fr .count) 0
 
 -- the hand goes on until it rests, n frames visited at most: where it is then, and the frames
 unfoldable pub sweepFrom : ℕ → ℕ → ℕ → List Frame → ℕ × List Frame

@@ -3,3 +3,4 @@ pub mod Lru
 pub mod Clock
 pub mod Watt
 pub mod Rules
+pub mod ForCode

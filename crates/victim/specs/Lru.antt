@@ -8,8 +8,7 @@ use Rattle.search.specs.Search.{leastBelow}
 use Rattle.pool.specs.declared.Frame.{Frame}
 use Rattle.pool.specs.declared.Pool.{Pool}
 use Rattle.pool.specs.Pool.{frameAt}
-use Rattle.victim.specs.declared.Choice.{Choice}
-use Rattle.victim.specs.Choice.{unpinned, unmoved}
+use Rattle.victim.specs.Choice.{Choice, unpinned, unmoved}
 
 -- a lesser last step
 abbrev pub older : List Frame → ℕ → ℕ → Bool

@@ -1,7 +1,7 @@
 -- The rules by number.
 use Prim.Native.Nat.{ℕ, zero, suc}
 use Rattle.pool.specs.declared.Pool.{Pool}
-use Rattle.victim.specs.declared.Choice.{Choice}
+use Rattle.victim.specs.Choice.{Choice}
 use Rattle.victim.specs.Lru.{lruChoice}
 use Rattle.victim.specs.Clock.{clockChoice}
 use Rattle.victim.specs.Watt.{wattChoice}

@@ -1,13 +1,15 @@
 // Generalised clock: from the hand upward, lowering counts, until it rests on an unpinned frame with count 0.
-use crate::Choice;
+use crate::Chosen;
 use pool::Frame;
-use pool::Pool;
 use search::Found;
+use table::Head;
 ghost use mathlib.Core.Path.{_≡_};
 ghost use mathlib.Core.Bool.{true};
 ghost use Prim.Native.Nat.{_<_, _≤_};
 ghost use Rattle.pool.specs.Sound.{soundPool};
-ghost use Rattle.victim.specs.Clock.{rests, passedFrame, nextHand, anyUnpinned, someUnpinned, sweptChoice, clockChoice};
+ghost use Rattle.table.specs.Table.{framesIn, poolIn};
+ghost use Rattle.victim.specs.ForCode.{choiceIn};
+ghost use Rattle.victim.specs.Clock.{rests, passedCount, nextHand, anyUnpinned, someUnpinned, sweptChoice, clockChoice};
 
 // Whether the hand rests on a frame: unpinned, with count 0.
 fn resting(fr: Frame) -> bool
@@ -16,17 +18,16 @@ fn resting(fr: Frame) -> bool
     if fr.pins == 0 { fr.count == 0 } else { false }
 }
 
-// A frame that the hand passes: a pinned one as it is, another with its count lowered.
-fn passing(fr: Frame) -> Frame
-    ensures { λ r. ⌜ r ≡ passedFrame fr ⌝ }
+// The count of a frame that the hand passes: a pinned one's as it is, another's lowered.
+fn passing(fr: Frame) -> u8
+    ensures { λ r. ⌜ r ≡ passedCount fr ⌝ }
 {
-    let mut g = fr;
-    if g.pins == 0 {
-        if 0 < g.count {
-            g.count = g.count - 1;
+    if fr.pins == 0 {
+        if 0 < fr.count {
+            return fr.count - 1;
         }
     }
-    g
+    fr.count
 }
 
 // The place after h, from f - 1 back to 0.
@@ -38,39 +39,42 @@ fn next_hand(h: usize, f: usize) -> usize
 }
 
 // The sweep: from the hand on until it rests, and then one past. With no unpinned frame it would not end.
-fn sweep(p: Pool) -> Choice
-    requires { ⌜ (soundPool p ≡ true) × (someUnpinned p ≡ true) ⌝ }
-    ensures { λ r. ⌜ r ≡ sweptChoice p ⌝ }
+fn sweep<'a>(
+    h: Head,
+    table: &mut [u32; 1024],
+    access: &'a [u32; 1024],
+    write: &'a [u32; 512],
+) -> Chosen
+    requires { ⌜ (soundPool (poolIn h (now table) (now access) (now write)) ≡ true) × (someUnpinned (poolIn h (now table) (now access) (now write)) ≡ true) ⌝ }
+    ensures { λ r. ⌜ choiceIn r (now (table .exit)) ≡ sweptChoice (poolIn h (now (table .entry)) (now (access .entry)) (now (write .entry))) ⌝ }
 {
-    let f = p.settings.frames as usize;
-    let mut fs = p.frames;
-    let mut h = p.hand as usize;
+    let f = h.settings.frames as usize;
+    let mut at = h.hand as usize;
     let v = loop {
-        let fr = fs[h];
+        let fr = table::frame_at(table, at);
         if resting(fr) {
-            break h;
+            break at;
         }
-        fs[h] = passing(fr);
-        h = next_hand(h, f);
+        table::put_count(table, at, passing(fr));
+        at = next_hand(at, f);
     };
     let past = next_hand(v, f);
     let hand = past as u16;
-    Choice {
+    Chosen {
         found: Found::At(v),
         hand: hand,
-        sampler: p.sampler,
-        frames: fs,
+        sampler: h.sampler,
     }
 }
 
 // The lowest unpinned frame below f.
-fn any_unpinned(frames: [Frame; 128], f: usize) -> Found
+fn any_unpinned(table: &[u32; 1024], f: usize) -> Found
     requires { ⌜ f ≤ 128 ⌝ }
-    ensures { λ r. ⌜ r ≡ anyUnpinned frames f ⌝ }
+    ensures { λ r. ⌜ r ≡ anyUnpinned (framesIn (now (table .entry))) f ⌝ }
 {
     let mut i: usize = 0;
     while i < f {
-        let fr = frames[i];
+        let fr = table::frame_at(table, i);
         if fr.pins == 0 {
             return Found::At(i);
         }
@@ -80,15 +84,23 @@ fn any_unpinned(frames: [Frame; 128], f: usize) -> Found
 }
 
 // The victim of the sweep, or none and nothing changed where every frame is pinned.
-pub fn choose(p: Pool) -> Choice
-    requires { ⌜ soundPool p ≡ true ⌝ }
-    ensures { λ r. ⌜ r ≡ clockChoice p ⌝ }
+pub fn choose<'a>(
+    h: Head,
+    table: &mut [u32; 1024],
+    access: &'a [u32; 1024],
+    write: &'a [u32; 512],
+) -> Chosen
+    requires { ⌜ soundPool (poolIn h (now table) (now access) (now write)) ≡ true ⌝ }
+    ensures { λ r. ⌜ choiceIn r (now (table .exit)) ≡ clockChoice (poolIn h (now (table .entry)) (now (access .entry)) (now (write .entry))) ⌝ }
 {
-    let f = p.settings.frames as usize;
-    let frames = p.frames;
-    let free = any_unpinned(frames, f);
+    let f = h.settings.frames as usize;
+    let free = any_unpinned(table, f);
     match free {
-        Found::At(_) => sweep(p),
-        Found::Nothing => crate::unmoved(p, Found::Nothing),
+        Found::At(_) => sweep(h, table, access, write),
+        Found::Nothing => Chosen {
+            found: Found::Nothing,
+            hand: h.hand,
+            sampler: h.sampler,
+        },
     }
 }

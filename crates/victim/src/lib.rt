@@ -3,45 +3,37 @@ pub mod clock;
 pub mod lru;
 pub mod watt;
 
-use pool::Frame;
-use pool::Pool;
 use search::Found;
+use table::Head;
 ghost use mathlib.Core.Path.{_≡_};
 ghost use mathlib.Core.Bool.{true};
 ghost use Rattle.pool.specs.Sound.{soundPool};
-ghost use Rattle.victim.specs.Choice.{unmoved};
+ghost use Rattle.table.specs.Table.{poolIn};
+ghost use Rattle.victim.specs.ForCode.{choiceIn};
 ghost use Rattle.victim.specs.Rules.{choiceOf};
 
-// What a rule leaves: its victim or none, and hand, sampler number and frames then.
-pub struct Choice {
+// What a rule chooses: its victim or none, and hand and sampler number then. The frames that it leaves stand in the table.
+pub struct Chosen {
     pub found: Found,
     pub hand: u16,
     pub sampler: u32,
-    pub frames: [Frame; 128],
-}
-
-// What was found, with hand, sampler number and frames as they are.
-fn unmoved(p: Pool, v: Found) -> Choice
-    ensures { λ r. ⌜ r ≡ unmoved p v ⌝ }
-{
-    let fs = p.frames;
-    Choice {
-        found: v,
-        hand: p.hand,
-        sampler: p.sampler,
-        frames: fs,
-    }
 }
 
 // What the pool's own rule chooses.
-pub fn choose(p: Pool) -> Choice
-    requires { ⌜ soundPool p ≡ true ⌝ }
-    ensures { λ r. ⌜ r ≡ choiceOf p ⌝ }
+pub fn choose<'a>(
+    h: Head,
+    table: &mut [u32; 1024],
+    access: &'a [u32; 1024],
+    write: &'a [u32; 512],
+) -> Chosen
+    requires { ⌜ soundPool (poolIn h (now table) (now access) (now write)) ≡ true ⌝ }
+    ensures { λ r. ⌜ choiceIn r (now (table .exit)) ≡ choiceOf (poolIn h (now (table .entry)) (now (access .entry)) (now (write .entry))) ⌝ }
 {
-    let rule = p.settings.rule;
+    let s = h.settings;
+    let rule = s.rule;
     match rule {
-        0 => lru::choose(p),
-        1 => clock::choose(p),
-        _ => watt::choose(p),
+        0 => lru::choose(h, table, access, write),
+        1 => clock::choose(h, table, access, write),
+        _ => watt::choose(h, table, access, write),
     }
 }

@@ -1,14 +1,16 @@
 // LRU: the victim is the unpinned frame with the least last step.
-use crate::Choice;
+use crate::Chosen;
 use pool::Frame;
-use pool::Pool;
 use search::Found;
+use table::Head;
 ghost use mathlib.Core.Path.{_≡_};
 ghost use mathlib.Core.Bool.{true};
 ghost use Prim.Native.Nat.{_≤_};
 ghost use lib.Dec.{ltb};
 ghost use Rattle.search.specs.Search.{onFound};
 ghost use Rattle.pool.specs.Sound.{soundPool};
+ghost use Rattle.table.specs.Table.{framesIn, poolIn};
+ghost use Rattle.victim.specs.ForCode.{choiceIn};
 ghost use Rattle.victim.specs.Lru.{lruVictim, lruChoice};
 
 // Whether a frame takes the place of the best so far, whose last step is low: on a tie it does not.
@@ -22,15 +24,15 @@ fn older(fr: Frame, best: Found, low: u32) -> bool
 }
 
 // The unpinned frame below f with the least last step, the lowest on a tie.
-fn victim(frames: [Frame; 128], f: usize) -> Found
+fn victim(table: &[u32; 1024], f: usize) -> Found
     requires { ⌜ f ≤ 128 ⌝ }
-    ensures { λ r. ⌜ r ≡ lruVictim frames f ⌝ }
+    ensures { λ r. ⌜ r ≡ lruVictim (framesIn (now (table .entry))) f ⌝ }
 {
     let mut best = Found::Nothing;
     let mut low: u32 = 0;
     let mut i: usize = 0;
     while i < f {
-        let fr = frames[i];
+        let fr = table::frame_at(table, i);
         if fr.pins == 0 {
             if older(fr, best, low) {
                 best = Found::At(i);
@@ -42,13 +44,21 @@ fn victim(frames: [Frame; 128], f: usize) -> Found
     best
 }
 
-// The victim among the pool's frames; hand, sampler number and frames stay.
-pub fn choose(p: Pool) -> Choice
-    requires { ⌜ soundPool p ≡ true ⌝ }
-    ensures { λ r. ⌜ r ≡ lruChoice p ⌝ }
+// The victim among the pool's frames; hand, sampler number and frames stay. Every rule is handed the logs, and this one needs none.
+pub fn choose<'a>(
+    h: Head,
+    table: &'a [u32; 1024],
+    access: &'a [u32; 1024],
+    write: &'a [u32; 512],
+) -> Chosen
+    requires { ⌜ soundPool (poolIn h (now table) (now access) (now write)) ≡ true ⌝ }
+    ensures { λ r. ⌜ choiceIn r (now (table .entry)) ≡ lruChoice (poolIn h (now (table .entry)) (now (access .entry)) (now (write .entry))) ⌝ }
 {
-    let f = p.settings.frames as usize;
-    let frames = p.frames;
-    let v = victim(frames, f);
-    crate::unmoved(p, v)
+    let f = h.settings.frames as usize;
+    let found = victim(table, f);
+    Chosen {
+        found: found,
+        hand: h.hand,
+        sampler: h.sampler,
+    }
 }

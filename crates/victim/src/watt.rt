@@ -1,8 +1,8 @@
 // WATT: the drawn unpinned frame of least value.
-use super::Choice;
+use crate::Chosen;
 use pool::Frame;
-use pool::Pool;
 use search::Found;
+use table::Head;
 use worth::Fraction;
 ghost use mathlib.Core.Path.{_≡_};
 ghost use mathlib.Core.Bool.{true, false};
@@ -11,9 +11,10 @@ ghost use lib.ListN.{getD};
 ghost use Rattle.search.specs.Search.{onFound, among};
 ghost use Rattle.worth.specs.Value.{lessFraction, worthOf, valueOf};
 ghost use Rattle.worth.specs.Sizes.{Small};
-ghost use Rattle.pool.specs.Pool.{nowOf};
+ghost use Rattle.table.specs.Table.{framesIn, poolIn};
+ghost use Rattle.victim.specs.ForCode.{choiceIn, valueFrom, leastFrom, Valuable};
 ghost use Rattle.pool.specs.Sound.{soundPool};
-ghost use Rattle.victim.specs.Watt.{nextSampler, samplerAfter, draws, valueFrom, leastFrom, Valuable, drawnFrame, wattVictim, wattChoice};
+ghost use Rattle.victim.specs.Watt.{nextSampler, samplerAfter, draws, drawnFrame, wattVictim, wattChoice};
 
 // The sampler number after some draws, and which frames they named.
 struct Draws {
@@ -87,7 +88,7 @@ pub fn beats(v: Fraction, best: Found, low: Fraction) -> bool
 
 // The marked unpinned frame below f of least value, the lowest on a tie. A value is found once, and only for such a frame.
 fn least<'a>(
-    frames: [Frame; 128],
+    table: &'a [u32; 1024],
     access: &'a [u32; 1024],
     write: &'a [u32; 512],
     marks: [bool; 128],
@@ -95,14 +96,14 @@ fn least<'a>(
     weight: u16,
     epoch: u32,
 ) -> Found
-    requires { ⌜ Valuable frames f weight epoch ⌝ }
-    ensures { λ r. ⌜ r ≡ leastFrom frames (valueFrom frames (now (access .entry)) (now (write .entry)) weight epoch) (λ i. getD marks i false) f ⌝ }
+    requires { ⌜ Valuable (framesIn (now table)) f weight epoch ⌝ }
+    ensures { λ r. ⌜ r ≡ leastFrom (framesIn (now (table .entry))) (valueFrom (framesIn (now (table .entry))) (now (access .entry)) (now (write .entry)) weight epoch) (λ i. getD marks i false) f ⌝ }
 {
     let mut best = Found::Nothing;
     let mut low = Fraction { num: 0, den: 1 };
     let mut i: usize = 0;
     while i < f {
-        let fr = frames[i];
+        let fr = table::frame_at(table, i);
         if marks[i] & (fr.pins == 0) {
             let v = value_of(fr, access, write, i, weight, epoch);
             if beats(v, best, low) {
@@ -116,20 +117,25 @@ fn least<'a>(
 }
 
 // The victim among the drawn frames; if every drawn frame is pinned, all frames count as drawn.
-fn victim(p: Pool, marks: [bool; 128], epoch: u32) -> Found
-    requires { ⌜ (soundPool p ≡ true) × (epoch ≡ nowOf p) × ((i : ℕ) → i < 128 → getD marks i false ≡ drawnFrame p i) ⌝ }
-    ensures { λ r. ⌜ r ≡ wattVictim p ⌝ }
+fn victim<'a>(
+    h: Head,
+    table: &'a [u32; 1024],
+    access: &'a [u32; 1024],
+    write: &'a [u32; 512],
+    marks: [bool; 128],
+) -> Found
+    requires { ⌜ (soundPool (poolIn h (now table) (now access) (now write)) ≡ true) × ((i : ℕ) → i < 128 → getD marks i false ≡ drawnFrame (poolIn h (now table) (now access) (now write)) i) ⌝ }
+    ensures { λ r. ⌜ r ≡ wattVictim (poolIn h (now (table .entry)) (now (access .entry)) (now (write .entry))) ⌝ }
 {
-    let f = p.settings.frames as usize;
-    let frames = p.frames;
-    let access = p.access;
-    let write = p.write;
-    let first = least(frames, &access, &write, marks, f, p.settings.weight, epoch);
+    let epoch = table::now_of(h);
+    let f = h.settings.frames as usize;
+    let weight = h.settings.weight;
+    let first = least(table, access, write, marks, f, weight, epoch);
     match first {
         Found::At(v) => Found::At(v),
         Found::Nothing => {
             let every = [true; 128];
-            least(frames, &access, &write, every, f, p.settings.weight, epoch)
+            least(table, access, write, every, f, weight, epoch)
         }
     }
 }
@@ -145,19 +151,21 @@ fn moved(found: Found, after: u32, before: u32) -> u32
 }
 
 // The victim, and the sampler number after the draws.
-pub fn choose(p: Pool) -> Choice
-    requires { ⌜ soundPool p ≡ true ⌝ }
-    ensures { λ r. ⌜ r ≡ wattChoice p ⌝ }
+pub fn choose<'a>(
+    h: Head,
+    table: &'a [u32; 1024],
+    access: &'a [u32; 1024],
+    write: &'a [u32; 512],
+) -> Chosen
+    requires { ⌜ soundPool (poolIn h (now table) (now access) (now write)) ≡ true ⌝ }
+    ensures { λ r. ⌜ choiceIn r (now (table .entry)) ≡ wattChoice (poolIn h (now (table .entry)) (now (access .entry)) (now (write .entry))) ⌝ }
 {
-    let epoch = pool::now_of(p);
-    let d = drawn(p.sampler, p.settings.frames, p.settings.sample);
+    let d = drawn(h.sampler, h.settings.frames, h.settings.sample);
     let marks = d.marks;
-    let found = victim(p, marks, epoch);
-    let frames = p.frames;
-    Choice {
+    let found = victim(h, table, access, write, marks);
+    Chosen {
         found: found,
-        hand: p.hand,
-        sampler: moved(found, d.sampler, p.sampler),
-        frames: frames,
+        hand: h.hand,
+        sampler: moved(found, d.sampler, h.sampler),
     }
 }

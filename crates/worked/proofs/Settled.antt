@@ -28,7 +28,8 @@ use Rattle.effect.specs.Record.{recordOf, dirtyIn}
 use Rattle.replay.specs.declared.Stepped.{Stepped}
 use Rattle.replay.specs.declared.Ended.{Ended}
 use Rattle.replay.specs.Replay.{Played, replayTo, replayOf, numbersOf}
-use Rattle.replay.specs.Calls.{mayBegin, StepInto, roomFor, countsRefusal, replayRefusal, endedOf, countsOf, RanInto, ReplayInto}
+use Rattle.replay.specs.Calls.{mayBegin, StepInto, roomFor, countsRefusal, replayRefusal, endedOf, countsOf, ReplayInto}
+use Rattle.replay.specs.ForCode.{RanInto}
 use Rattle.replay.proofs.Laws.{doing, replay-suc, rows-length, replay-tally, numbers-length, writesTo, writes-all}
 use Rattle.replay.proofs.Begins.{begins-sound, begins-within}
 use Rattle.replay.proofs.Going.{Going, going}

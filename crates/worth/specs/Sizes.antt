@@ -2,7 +2,7 @@
 use Prim.Native.Nat.{_≤_}
 use Rattle.worth.specs.declared.Fraction.{Fraction}
 
--- small enough to compare: a value, a worth or a part
+-- "with k at most 50,000 two values compare exactly in 64-bit unsigned products": small enough for that
 pub record Small (a : Fraction) : Type 0 where
   pub num : a .num ≤ 70000000
   pub den : a .den ≤ 250000000000

@@ -19,7 +19,7 @@ ageOf epoch t = max (epoch - t) 1
 abbrev pub partOf : ℕ → ℕ → Fraction
 partOf j age = pick (eqb j 0) (fraction 1 (10 * age)) (fraction (j + 1) age)
 
--- "two values compare exactly in 64-bit unsigned products"
+-- page values are exact fractions: whether one is less than another, by cross products
 unfoldable pub lessFraction : Fraction → Fraction → Bool
 lessFraction a b = ltb (a .num * b .den) (b .num * a .den)
 

@@ -1,49 +1,58 @@
 use Prim.Native.Nat.{_-_, _≤_}
 use mathlib.Core.Path.{_≡_, refl, _∙_}
-use mathlib.Core.Bool.{true}
 use native.Mathlib.Omega.{arith}
 use lib.ListN.{length, length-set}
 use Rattle.settings.proofs.Laws.{ranges}
 use Rattle.pool.specs.Pool.{nowOf}
-use Rattle.pool.specs.Sound.{soundPool}
 use Rattle.pool.proofs.Sound.{told}
-use Rattle.batch.specs.Ranks.{RankedTo}
-use Rattle.batch.proofs.Ranks.{rankable, ranked-none, ranked-more}
+use Rattle.table.specs.Table.{poolIn}
+use Rattle.batch.specs.ForCode.{RankedTo}
+use Rattle.batch.proofs.Ranks.{rankable, now-is, ranked-none, ranked-more}
 use borrow.Author.Needs.{needs}
 use Rattle.batch.proofs.rank_all.Statement.{statement}
 use Rattle.batch.proofs.rank_all.Tie as tie
 
 abbrev Inv-loop : tie.InvT-loop
-Inv-loop v epoch p f waiting₀ ranks₀ i₀ waiting ranks i = (i ≤ f) × (f ≤ 128) × (length waiting ≡ 128) × (length ranks ≡ 128) × (soundPool p ≡ true) × (epoch ≡ nowOf p) × RankedTo p v i waiting ranks
+Inv-loop h table access write v epoch s f waiting₀ nums₀ dens₀ i₀ waiting nums dens i =
+    let p = poolIn h table access write in
+    (i ≤ f) × (f ≤ 128) × (length waiting ≡ 128) × (length nums ≡ 128) × (length dens ≡ 128) × (epoch ≡ nowOf p) × RankedTo p v i waiting nums dens
 
 abbrev μ-loop : tie.MeasureT-loop
-μ-loop v epoch p f waiting₀ ranks₀ i₀ waiting ranks i = f - i
+μ-loop h table access write v epoch s f waiting₀ nums₀ dens₀ i₀ waiting nums dens i = f - i
+
+now-of-requires : tie.Need-now-of-requires Inv-loop μ-loop
+now-of-requires c κs = ranges _ (told _ (c .pre) .settings) .epoch .0
 
 loop-holds : tie.Need-loop-holds Inv-loop μ-loop
-loop-holds c = (search needs, ranges _ (told _ (c .pre .0) .settings) .frames .1, refl, refl, c .pre .0, c .pre .1, ranked-none _ _ _ _)
+loop-holds c =
+    let a = c .before .before .before in
+    (search needs, ranges _ (told _ (a .pre) .settings) .frames .1, refl, refl, refl, now-is _ _ (c .before .before .now-of .ensures), ranked-none _ _ _ _ _)
 
 rank-where-requires : tie.Need-rank-where-requires Inv-loop μ-loop
 rank-where-requires c κs =
-    let v = c .before .before .before .before .before .before .before .before .loop .inv in
-    rankable _ _ _ (told _ (v .4)) (omega arith) (v .5)
+    let r = c .before .before .before .before in
+    let a = r .before .before .before .before in
+    let v = r .loop .inv in
+    rw (c .before .before .frame-at .ensures) (rankable _ _ _ (told _ (a .pre)) (omega arith) (v .5))
 
 loop-again : tie.Need-loop-again Inv-loop μ-loop
 loop-again c =
-    let r = c .before .before .before .before .before .before .before .before .before .loop in
+    let g = c .before .before .before in
+    let r = g .before .before .loop in
     let v = r .inv in (
       omega arith,
       v .1,
       length-set (r .waiting) _ _ ∙ v .2,
-      length-set (r .ranks) _ _ ∙ v .3,
-      v .4,
+      length-set (r .nums) _ _ ∙ v .3,
+      length-set (r .dens) _ _ ∙ v .4,
       v .5,
-      ranked-more _ _ _ _ _ _ _ (v .2) (v .3) (omega arith) (v .6) (v .5) (c .rank-where .ensures),
+      ranked-more _ _ _ _ _ _ _ (v .2) (v .3) (v .4) (omega arith) (v .6) (v .5) _ _ (g .frame-at .ensures) (c .rank-where .ensures),
     )
 
 returns : tie.Need-returns Inv-loop μ-loop
 returns c =
     let r = c .before .loop in
-    let e : r .i ≡ c .before .before .args .t1 .settings .frames = omega arith in
+    let e : r .i ≡ c .before .before .before .before .before .args .h .settings .frames = omega arith in
     rw e at (r .inv .6)
 
 pub rank-all-spec : {M : Type 1} → statement M
@@ -52,12 +61,14 @@ rank-all-spec =
     (tie.spec
     Inv-loop
     μ-loop
+    now-of-requires
     (λ c. search needs)
     loop-holds
-    (λ c. search needs)
-    (λ c. search needs)
-    (λ c. search needs)
+    (λ c κs. search needs)
     rank-where-requires
+    (λ c. search needs)
+    (λ c. search needs)
+    (λ c. search needs)
     (λ c. search needs)
     (λ c. search needs)
     (λ c. search needs)

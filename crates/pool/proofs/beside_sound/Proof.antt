@@ -1,4 +1,4 @@
-use Rattle.pool.specs.ByFrame.{besideSound}
+use Rattle.pool.specs.ForCode.{besideSound}
 use borrow.Author.Needs.{needs}
 use Rattle.pool.proofs.beside_sound.Statement.{statement}
 use Rattle.pool.proofs.beside_sound.Tie as tie

@@ -5,7 +5,7 @@ use native.Mathlib.Omega.{arith}
 use lib.ListN.{length}
 use Rattle.search.specs.Search.{everyBelow}
 use Rattle.search.proofs.Every.{every-none, every-more, every-fails, denied, undenied}
-use Rattle.pool.specs.ByFrame.{frameSound}
+use Rattle.pool.specs.ForCode.{frameSound}
 use Rattle.pool.proofs.ByFrame.{frame-tested}
 use borrow.Author.Needs.{needs}
 use Rattle.pool.proofs.frames_sound.Statement.{statement}

@@ -5,7 +5,7 @@ use native.Mathlib.Omega.{arith}
 use Rattle.search.specs.Search.{everyBelow}
 use Rattle.search.proofs.Every.{every-none, every-more, every-fails, denied, undenied}
 use Rattle.pool.specs.Pool.{frameAt}
-use Rattle.pool.specs.ByFrame.{pairAt, pairsSound}
+use Rattle.pool.specs.ForCode.{pairAt, pairsSound}
 use borrow.Author.Needs.{needs}
 use Rattle.pool.proofs.pairs_sound.Statement.{statement}
 use Rattle.pool.proofs.pairs_sound.Tie as tie

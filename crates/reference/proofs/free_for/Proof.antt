@@ -1,10 +1,13 @@
 use Prim.Native.Nat.{_-_, _≤_}
-use mathlib.Core.Path.{_≡_, ap, _∙_}
+use mathlib.Core.Path.{_≡_, ap, sym, _∙_}
 use mathlib.Core.Bool.{not}
 use native.Mathlib.Omega.{arith}
+use denote.Ref.{now}
 use Rattle.search.specs.declared.Found.the-variants.{Nothing}
 use Rattle.search.specs.Search.{leastBelow, never}
 use Rattle.search.proofs.Least.{least-zero, least-skip}
+use Rattle.pool.specs.declared.Frame.{Frame}
+use Rattle.table.specs.Table.{framesIn}
 use Rattle.reference.specs.Search.{unused}
 use Rattle.reference.proofs.Free.{bound-few, free-found, free-none}
 use borrow.Author.Needs.{needs}
@@ -12,28 +15,40 @@ use Rattle.reference.proofs.free_for.Statement.{statement}
 use Rattle.reference.proofs.free_for.Tie as tie
 
 abbrev Inv-loop : tie.InvT-loop
-Inv-loop f frames n i₀ i = (i ≤ n) × (n ≤ 128) × (leastBelow (unused frames) never i ≡ Nothing)
+Inv-loop table f n i₀ i = (i ≤ n) × (n ≤ 128) × (leastBelow (unused (framesIn table)) never i ≡ Nothing)
 
 abbrev μ-loop : tie.MeasureT-loop
-μ-loop f frames n i₀ i = n - i
+μ-loop table f n i₀ i = n - i
 
 loop-holds : tie.Need-loop-holds Inv-loop μ-loop
-loop-holds c = (search needs, bound-few (c .before .args .t1) (c .before .args .f) (c .before .args .found) _ (c .to-look-through .ensures) (c .before .pre), least-zero _ _)
+loop-holds c =
+    let a = c .before .before in
+    (search needs, bound-few (framesIn (now (a .args .table))) (a .args .f) (c .before .frame-at .result .used) (a .args .found) _ (c .to-look-through .ensures) (a .pre .1), least-zero _ _)
 
-loop-again : tie.Need-loop-again Inv-loop μ-loop
-loop-again c = let l = c .before .before .before .loop .inv in (search needs, l .1, least-skip _ _ _ (ap not (c .if1 .taken)) ∙ l .2)
+-- whether the frame looked at is unused
+tested : (h : tie.After-frame-at2 Inv-loop μ-loop) → let l = h .before .before in unused (framesIn (now (l .before .before .before .args .table))) (l .loop .i) ≡ not (h .frame-at2 .result .used)
+tested h = ap (λ (fr : Frame). not (fr .used)) (sym (h .frame-at2 .ensures))
 
 returns : tie.Need-returns Inv-loop μ-loop
 returns c =
-    let l = c .before .before .before in
-    let a = l .before .before .args in
-    free-found (a .t1) (a .f) (a .found) _ _ (l .before .to-look-through .ensures) (c .before .before .loop-test .taken) (l .loop .inv .2) (ap not (c .if1 .left))
+    let h = c .before .before in
+    let l = h .before .before in
+    let k = l .before in
+    let a = k .before .before in
+    free-found (framesIn (now (a .args .table))) (a .args .f) (k .before .frame-at .result .used) (a .args .found) _ _ (k .to-look-through .ensures) (h .before .loop-test .taken) (l .loop .inv .2) (tested h ∙ c .if1 .taken)
+
+loop-again : tie.Need-loop-again Inv-loop μ-loop
+loop-again c =
+    let h = c .before .before in
+    let l = h .before .before .loop .inv in
+    (search needs, l .1, least-skip _ _ _ (tested h ∙ c .if1 .left) ∙ l .2)
 
 returns-2 : tie.Need-returns-2 Inv-loop μ-loop
 returns-2 c =
     let l = c .before in
-    let a = l .before .before .args in
-    free-none (a .t1) (a .f) (a .found) _ _ (l .before .to-look-through .ensures) (omega arith) (l .loop .inv .2)
+    let k = l .before in
+    let a = k .before .before in
+    free-none (framesIn (now (a .args .table))) (a .args .f) (k .before .frame-at .result .used) (a .args .found) _ _ (a .pre .0) (a .pre .1) (a .pre .2) (ap (λ (fr : Frame). fr .used) (k .before .frame-at .ensures)) (k .to-look-through .ensures) (omega arith) (l .loop .inv .2)
 
 pub free-for-spec : {M : Type 1} → statement M
 free-for-spec =
@@ -41,12 +56,13 @@ free-for-spec =
     (tie.spec
     Inv-loop
     μ-loop
+    (λ c. search needs)
+    (λ c κs. let l = c .pre .1 in let z = c .pre .0 in omega arith)
     (λ c κs. search needs)
     loop-holds
-    (λ c. let l = c .before .loop .inv in let t = c .loop-test .taken in omega arith)
-    (λ c. let l = c .before .loop .inv in let t = c .loop-test .taken in omega arith)
-    (λ c. let l = c .before .before .before .loop .inv in let t = c .before .before .loop-test .taken in omega arith)
-    (λ c. let t = c .before .before .loop-test .taken in omega arith)
-    loop-again
+    (λ c κs. let l = c .before .loop .inv in let t = c .loop-test .taken in omega arith)
     returns
+    (λ c. let l = c .before .before .before .before .loop .inv in let t = c .before .before .before .loop-test .taken in omega arith)
+    (λ c. let t = c .before .before .before .loop-test .taken in omega arith)
+    loop-again
     returns-2)

@@ -5,10 +5,10 @@ use Rattle.victim.proofs.choose.Statement.{statement}
 use Rattle.victim.proofs.choose.Tie as tie
 
 returns : tie.Need-returns
-returns c = choice-first _ _ (c .before .match .keys1) (c .choose .ensures)
+returns c = choice-first _ _ (c .before .before .match .keys1) (c .choose .ensures)
 
 returns-2 : tie.Need-returns-2
-returns-2 c = choice-second _ _ (c .before .match .keys2) (c .choose2 .ensures)
+returns-2 c = choice-second _ _ (c .before .before .match .keys2) (c .choose2 .ensures)
 
 returns-3 : tie.Need-returns-3
 returns-3 c = choice-third _ _ (omega arith) (c .choose3 .ensures)

@@ -12,7 +12,7 @@ use borrow.Author.Tests.{eqb-false, ltb-true, ltb-false, leb-true, leb-false}
 use Rattle.search.specs.Search.{pick}
 use Rattle.search.proofs.Every.{pick-ind}
 use Rattle.pool.specs.declared.Frame.{Frame}
-use Rattle.pool.specs.Pool.{frameAt, emptyFrame, withCount}
+use Rattle.pool.specs.Pool.{frameAt, emptyFrame}
 use Rattle.victim.specs.Choice.{unpinned}
 use Rattle.victim.specs.Clock.{rests, passedFrame, passed, nextHand, sweepFrom}
 
@@ -55,12 +55,6 @@ pub next-below : (f h : ℕ) → h < f → nextHand f h < f
 next-below f h l = pick-lt (h + 1) f (h + 1) 0 (λ x. x < f) (λ a. a) (λ a. omega arith)
 
 -- A frame passed.
-
-pub passed-low : (fr : Frame) → eqb (fr .pins) 0 ≡ true → withCount fr (fr .count - 1) ≡ passedFrame fr
-passed-low fr t = rw t
-
-pub passed-none : (fr : Frame) → eqb (fr .pins) 0 ≡ true → fr .count ≤ 0 → fr ≡ passedFrame fr
-passed-none fr t z = let q : fr .count ≡ fr .count - 1 = omega arith in ap (withCount fr) q ∙ passed-low fr t
 
 -- what holds of frame i, and where the hand passes it of the frame passed, holds after the visit
 pub passed-at : (fs : List Frame) (h i : ℕ) (P : Frame → Type 0) → P (frameAt fs i) → P (passedFrame (frameAt fs i)) → P (frameAt (passed fs h) i)

@@ -17,8 +17,7 @@ use Rattle.pool.specs.declared.Pool.{Pool}
 use Rattle.pool.specs.Pool.{frameAt}
 use Rattle.pool.proofs.Sound.{Sound}
 use Rattle.pool.proofs.Quiet.{Quiet, sound-quiet}
-use Rattle.victim.specs.declared.Choice.{Choice}
-use Rattle.victim.specs.Choice.{unpinned, unmoved, leftBy}
+use Rattle.victim.specs.Choice.{Choice, unpinned, unmoved, leftBy}
 use Rattle.victim.specs.Clock.{rests, passedFrame, passed, nextHand, sweepFrom, visits, sweepOf, restedAt, sweptChoice, anyUnpinned, someUnpinned, clockChoice}
 use Rattle.victim.proofs.Owed.{AllPinned, repaged, repagedPool, repagedChoice, EmptyStays, frame-repaged, map-set, Lowered, lowered-same, lowered-more, quiet-of, Owes}
 use Rattle.victim.proofs.clock.Falling.{next-below, passed-at, passed-unpinned, left, left-falls}

@@ -13,11 +13,10 @@ use Rattle.search.proofs.Least.{least-sound}
 use Rattle.settings.proofs.Laws.{ranges}
 use Rattle.pool.specs.declared.Frame.{Frame}
 use Rattle.pool.specs.declared.Pool.{Pool}
-use Rattle.pool.specs.Pool.{frameAt}
+use Rattle.pool.specs.Pool.{frameAt, withCount}
 use Rattle.pool.proofs.Sound.{Sound}
-use Rattle.victim.specs.declared.Choice.{Choice}
-use Rattle.victim.specs.Choice.{unpinned, unmoved}
-use Rattle.victim.specs.Clock.{rests, passedFrame, passed, nextHand, sweepFrom, sweepOf, restedAt, sweptChoice, anyUnpinned, someUnpinned, clockChoice}
+use Rattle.victim.specs.Choice.{Choice, unpinned, unmoved}
+use Rattle.victim.specs.Clock.{rests, passedCount, passed, nextHand, sweepFrom, sweepOf, restedAt, sweptChoice, anyUnpinned, someUnpinned, clockChoice}
 use Rattle.victim.proofs.clock.Falling.{dist-below, next-below, passed-unpinned, left, left-falls, sweep-stop, sweep-on}
 
 -- The unpinned frame that a sweep comes to at the latest.
@@ -84,22 +83,26 @@ module _ (p : Pool) (fs : List Frame) (h : ℕ) (s : Sweeping p fs h) where
     same = sym (sweep-on n (p .settings .frames) h fs r) ∙ e;
   }
 
-  -- a visit that passes, as the code makes it
-  pub turn : (g : Frame) (k : ℕ) → rests (frameAt fs h) ≡ false → g ≡ passedFrame (frameAt fs h) → k ≡ nextHand (p .settings .frames) h → Sweeping p (set fs h g) k
-  turn g k r e d = rw (e, d) (turn′ r (s .fuel) (s .enough) (s .same))
+  -- a visit that passes, as the code makes it: it finds the frame fr and gives it the count n
+  passes : (fr : Frame) (n : ℕ) (gs : List Frame) → fr ≡ frameAt fs h → n ≡ passedCount fr → gs ≡ set fs h (withCount (frameAt fs h) n) → gs ≡ passed fs h
+  passes fr n gs e m d = rw (d, m, e)
 
-  pub less : (g : Frame) (k : ℕ) → rests (frameAt fs h) ≡ false → g ≡ passedFrame (frameAt fs h) → k ≡ nextHand (p .settings .frames) h
-      → left (p .settings .frames) (home p) (set fs h g) k < left (p .settings .frames) (home p) fs h
-  less g k r e d = rw (e, d) (let q = falls r in omega arith)
+  pub turn : (fr : Frame) (n : ℕ) (gs : List Frame) (k : ℕ) → fr ≡ frameAt fs h → rests fr ≡ false → n ≡ passedCount fr → gs ≡ set fs h (withCount (frameAt fs h) n)
+      → k ≡ nextHand (p .settings .frames) h → Sweeping p gs k
+  turn fr n gs k e r m d q = rw (passes fr n gs e m d, q) (turn′ (rw e at r) (s .fuel) (s .enough) (s .same))
+
+  pub less : (fr : Frame) (n : ℕ) (gs : List Frame) (k : ℕ) → fr ≡ frameAt fs h → rests fr ≡ false → n ≡ passedCount fr → gs ≡ set fs h (withCount (frameAt fs h) n)
+      → k ≡ nextHand (p .settings .frames) h → left (p .settings .frames) (home p) gs k < left (p .settings .frames) (home p) fs h
+  less fr n gs k e r m d q = rw (passes fr n gs e m d, q) (let l = falls (rw e at r) in omega arith)
 
   stopped : rests (frameAt fs h) ≡ true → (n : ℕ) → left (p .settings .frames) (home p) fs h < n → sweepFrom n (p .settings .frames) h fs ≡ sweepOf p → (h, fs) ≡ sweepOf p
   stopped r zero l e = absurd (omega arith)
   stopped r (suc n) l e = sym (sweep-stop n (p .settings .frames) h fs r) ∙ e
 
   -- the visit that rests
-  pub end : (k : ℕ) → rests (frameAt fs h) ≡ true → k ≡ nextHand (p .settings .frames) h → _≡_ {A = Choice} (record { found = At h; hand = k; sampler = p .sampler; frames = fs }) (sweptChoice p)
+  pub end : (fr : Frame) (k : ℕ) → fr ≡ frameAt fs h → rests fr ≡ true → k ≡ nextHand (p .settings .frames) h → _≡_ {A = Choice} (record { found = At h; hand = k; sampler = p .sampler; frames = fs }) (sweptChoice p)
   unfolding sweptChoice
-  end k r d = rw d (ap (restedAt p) (stopped r (s .fuel) (s .enough) (s .same)))
+  end fr k e r d = rw d (ap (restedAt p) (stopped (rw e at r) (s .fuel) (s .enough) (s .same)))
 
 -- The two ways through a choice.
 

@@ -3,7 +3,7 @@ use mathlib.Core.Path.{_≡_, refl, sym, _∙_}
 use mathlib.Core.Bool.{true, false, true≢false}
 use mathlib.Core.List.{List}
 use Prim.Native.Nat.{ℕ, _+_}
-use lib.Dec.{ltb}
+use lib.Dec.{eqb, ltb}
 use Rattle.search.specs.declared.Found.{Found}
 use Rattle.search.specs.declared.Found.the-variants.{At, Nothing}
 use Rattle.search.specs.Search.{onFound, leastBelow}
@@ -22,15 +22,16 @@ module _ (fs : List Frame) where
   pub oldest-none : Oldest fs 0 Nothing 0
   oldest-none = record { found = sym (least-zero (unpinned fs) (older fs)); last = refl }
 
-  pub oldest-skip : (i : ℕ) (best : Found) (low : ℕ) → Oldest fs i best low → unpinned fs i ≡ false → Oldest fs (i + 1) best low
-  oldest-skip i best low b e = record { found = b .found ∙ sym (least-skip (unpinned fs) (older fs) i e); last = b .last }
+  -- the next frame, as the code has found it
+  pub oldest-skip : (i : ℕ) (best : Found) (low : ℕ) (fr : Frame) → Oldest fs i best low → fr ≡ frameAt fs i → eqb (fr .pins) 0 ≡ false → Oldest fs (i + 1) best low
+  oldest-skip i best low fr b q e = record { found = b .found ∙ sym (least-skip (unpinned fs) (older fs) i (rw q at e)); last = b .last }
 
-  pub oldest-beat : (i : ℕ) (best : Found) (low : ℕ) → Oldest fs i best low → unpinned fs i ≡ true
-      → onFound best (λ _. ltb (frameAt fs i .last) low) true ≡ true → Oldest fs (i + 1) (At i) (frameAt fs i .last)
-  oldest-beat i Nothing low b e t = record { found = sym (least-first (unpinned fs) (older fs) i e (sym (b .found))); last = refl }
-  oldest-beat i (At j) low b e t = record { found = sym (least-beat (unpinned fs) (older fs) i j e (sym (b .found)) (rw (← b .last) t)); last = refl }
+  pub oldest-beat : (i : ℕ) (best : Found) (low : ℕ) (fr : Frame) → Oldest fs i best low → fr ≡ frameAt fs i → eqb (fr .pins) 0 ≡ true
+      → onFound best (λ _. ltb (fr .last) low) true ≡ true → Oldest fs (i + 1) (At i) (fr .last)
+  oldest-beat i Nothing low fr b q e t = record { found = sym (least-first (unpinned fs) (older fs) i (rw q at e) (sym (b .found))); last = rw q }
+  oldest-beat i (At j) low fr b q e t = record { found = sym (least-beat (unpinned fs) (older fs) i j (rw q at e) (sym (b .found)) (rw (← b .last, ← q) t)); last = rw q }
 
-  pub oldest-keep : (i : ℕ) (best : Found) (low : ℕ) → Oldest fs i best low → onFound best (λ _. ltb (frameAt fs i .last) low) true ≡ false
-      → Oldest fs (i + 1) best low
-  oldest-keep i Nothing low b t = absurd (true≢false t)
-  oldest-keep i (At j) low b t = record { found = sym (least-keep (unpinned fs) (older fs) i j (rw (← b .last) t) (sym (b .found))); last = b .last }
+  pub oldest-keep : (i : ℕ) (best : Found) (low : ℕ) (fr : Frame) → Oldest fs i best low → fr ≡ frameAt fs i
+      → onFound best (λ _. ltb (fr .last) low) true ≡ false → Oldest fs (i + 1) best low
+  oldest-keep i Nothing low fr b q t = absurd (true≢false t)
+  oldest-keep i (At j) low fr b q t = record { found = sym (least-keep (unpinned fs) (older fs) i j (rw (← b .last, ← q) t) (sym (b .found))); last = b .last }

@@ -22,9 +22,9 @@ use Rattle.pool.specs.declared.Pool.{Pool}
 use Rattle.pool.specs.Pool.{nowOf}
 use Rattle.pool.specs.Sound.{soundPool}
 use Rattle.pool.proofs.Sound.{told}
-use Rattle.victim.specs.declared.Choice.{Choice}
-use Rattle.victim.specs.Choice.{unpinned}
-use Rattle.victim.specs.Watt.{nextSampler, samplerAfter, draws, valueAt, lessValue, leastValue, valueFrom, leastFrom, drawnFrame, wattVictim, wattChoice}
+use Rattle.victim.specs.Choice.{Choice, unpinned}
+use Rattle.victim.specs.Watt.{nextSampler, samplerAfter, draws, valueAt, lessValue, leastValue, drawnFrame, wattVictim, wattChoice}
+use Rattle.victim.specs.ForCode.{valueFrom, leastFrom}
 
 -- ---- draws
 

@@ -4,7 +4,7 @@ use mathlib.Core.List.{List}
 use Prim.Native.Nat.{ℕ, _*_, _≤_, _<_}
 use native.Mathlib.Omega.{arith}
 use Rattle.worth.specs.declared.Fraction.{Fraction}
-use Rattle.worth.specs.Value.{worthOf, valueOf}
+use Rattle.worth.specs.Value.{worthOf}
 use Rattle.worth.specs.Sizes.{Small, WorthSmall}
 use Rattle.worth.proofs.Sizes.{worth-small, value-small}
 use Rattle.worth.proofs.Order.{worth-proper, value-proper}
@@ -14,7 +14,8 @@ use Rattle.pool.specs.declared.Pool.{Pool}
 use Rattle.pool.specs.Pool.{referenceLimit, frameAt, nowOf}
 use Rattle.pool.proofs.Sound.{Sound}
 use Rattle.pool.proofs.Epochs.{now-few}
-use Rattle.victim.specs.Watt.{valueAt, valueFrom, Valuable}
+use Rattle.victim.specs.Watt.{valueAt}
+use Rattle.victim.specs.ForCode.{valueFrom, Valuable}
 
 -- what a sound pool's values are made from is in bounds
 pub valuable : (p : Pool) (epoch : ℕ) → Sound p → epoch ≡ nowOf p → Valuable (p .frames) (p .settings .frames) (p .settings .weight) epoch

@@ -1,0 +1,144 @@
+// A pool's frames as one table of numbers that can be lent, which a struct cannot: field after field, so that a search goes through one field.
+use pool::Frame;
+use pool::Pool;
+use settings::Settings;
+ghost use mathlib.Core.Path.{_≡_};
+ghost use mathlib.Core.Bool.{false};
+ghost use Prim.Native.Nat.{_%_, _<_};
+ghost use lib.ListN.{length, set};
+ghost use Rattle.search.specs.Search.{oneIf};
+ghost use Rattle.pool.specs.Pool.{frameAt, withCount, epochAt};
+ghost use Rattle.table.specs.Table.{withDirty, framesIn, headOf, poolIn};
+
+// What a pool holds beside its frames and logs.
+pub struct Head {
+    pub settings: Settings,
+    pub k: u32,
+    pub hand: u16,
+    pub sampler: u32,
+}
+
+pub fn head_of(p: Pool) -> Head
+    ensures { λ r. ⌜ r ≡ headOf p ⌝ }
+{
+    let s = p.settings;
+    Head {
+        settings: s,
+        k: p.k,
+        hand: p.hand,
+        sampler: p.sampler,
+    }
+}
+
+// Now: the epoch of the next reference.
+pub fn now_of(h: Head) -> u32
+    requires { ⌜ 0 < h .settings .epoch ⌝ }
+    ensures { λ r. ⌜ r ≡ epochAt (h .settings) (h .k) ⌝ }
+{
+    h.k / h.settings.epoch
+}
+
+fn byte(n: u32) -> u8
+    ensures { λ r. ⌜ r ≡ n % 256 ⌝ }
+{
+    (n % 256) as u8
+}
+
+fn bit(such: bool) -> u32
+    ensures { λ r. ⌜ r ≡ oneIf such ⌝ }
+{
+    if such { 1 } else { 0 }
+}
+
+// Frame i.
+pub fn frame_at(table: &[u32; 1024], i: usize) -> Frame
+    requires { ⌜ i < 128 ⌝ }
+    ensures { λ r. ⌜ r ≡ frameAt (framesIn (now (table .entry))) i ⌝ }
+{
+    Frame {
+        used: table[i] == 1,
+        page: table[i + 128],
+        dirty: table[i + 256] == 1,
+        pins: byte(table[i + 384]),
+        count: byte(table[i + 512]),
+        last: table[i + 640],
+        accesses: byte(table[i + 768]),
+        writes: byte(table[i + 896]),
+    }
+}
+
+// Frame i becomes another.
+pub fn put(table: &mut [u32], i: usize, fr: Frame)
+    requires { ⌜ (i < 128) × (length (now table) ≡ 1024) ⌝ }
+    ensures { λ _. ⌜ framesIn (now (table .exit)) ≡ set (framesIn (now (table .entry))) i fr ⌝ }
+{
+    table[i] = bit(fr.used);
+    table[i + 128] = fr.page;
+    table[i + 256] = bit(fr.dirty);
+    table[i + 384] = fr.pins as u32;
+    table[i + 512] = fr.count as u32;
+    table[i + 640] = fr.last;
+    table[i + 768] = fr.accesses as u32;
+    table[i + 896] = fr.writes as u32;
+}
+
+// Frame i gets another clock count.
+pub fn put_count(table: &mut [u32], i: usize, n: u8)
+    requires { ⌜ (i < 128) × (length (now table) ≡ 1024) ⌝ }
+    ensures { λ _. ⌜ framesIn (now (table .exit)) ≡ set (framesIn (now (table .entry))) i (withCount (frameAt (framesIn (now (table .entry))) i) n) ⌝ }
+{
+    table[i + 512] = n as u32;
+}
+
+// Frame i becomes clean.
+pub fn clean(table: &mut [u32], i: usize)
+    requires { ⌜ (i < 128) × (length (now table) ≡ 1024) ⌝ }
+    ensures { λ _. ⌜ framesIn (now (table .exit)) ≡ set (framesIn (now (table .entry))) i (withDirty (frameAt (framesIn (now (table .entry))) i) false) ⌝ }
+{
+    table[i + 256] = 0;
+}
+
+// The table of a pool's frames.
+pub fn table_of(p: Pool) -> [u32; 1024]
+    ensures { λ r. ⌜ framesIn r ≡ p .frames ⌝ }
+{
+    let mut table = [0u32; 1024];
+    let mut i: usize = 0;
+    while i < 128 {
+        let fr = p.frames[i];
+        put(&mut table, i, fr);
+        i += 1;
+    }
+    table
+}
+
+// The frames that a table holds.
+pub fn frames_of(table: &[u32; 1024]) -> [Frame; 128]
+    ensures { λ r. ⌜ r ≡ framesIn (now (table .entry)) ⌝ }
+{
+    let none = frame_at(table, 0);
+    let mut frames = [none; 128];
+    let mut i: usize = 0;
+    while i < 128 {
+        frames[i] = frame_at(table, i);
+        i += 1;
+    }
+    frames
+}
+
+// The pool of a head, a table of frames, and the logs.
+pub fn pool_of(h: Head, table: &[u32; 1024], access: [u32; 1024], write: [u32; 512]) -> Pool
+    ensures { λ r. ⌜ r ≡ poolIn h (now (table .entry)) access write ⌝ }
+{
+    let s = h.settings;
+    let frames = frames_of(table);
+    Pool {
+        settings: s,
+        k: h.k,
+        hand: h.hand,
+        sampler: h.sampler,
+        frames: frames,
+        access: access,
+        write: write,
+    }
+}
