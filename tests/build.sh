@@ -16,27 +16,41 @@ expect_output() { # FILE COMMAND...
     "${@:2}" | cmp - "$1" || { echo "$0: $1 is not what this prints: ${*:2}" >&2; exit 1; }
 }
 
-# A proved crate for this machine: what rt made of it where this machine can run that, else the same proved module built
-# for this machine's processor.
-native() { # lib|bin NAME MADE
-    local out=target/native/${3##*/}
-    if [ "$(uname -m)" = x86_64 ]; then cp "$3" "$out"; else quietly tools/native "$1" "$2" "$out"; fi
+# The crates of the repository that some crates see.
+below() { # NAME...
+    local name used
+    for name; do
+        for used in $(sed -n "s/#.*//; s/^$name://p" crates.txt); do
+            if [ -d "crates/$used" ]; then echo "$used"; fi
+        done
+    done | sort -u
 }
 
-build_host() { # to libhost.a
-    quietly rt staticlib host
-    native lib host target/staticlib/libhost.a
-}
-
-# Proves what the programs share only once, and builds them side by side.
+# Proved crates for this machine: what rt makes of them where this machine can run that, else the same modules, proved as
+# they are built for this machine's processor.
 build_programs() { # NAME...
     local name job jobs=()
-    quietly rt check "$@"
+    if [ "$(uname -m)" = x86_64 ]; then
+        quietly rt check "$@"
+        for name; do cp "target/bin/$name" target/native; done
+        return
+    fi
+    quietly rt check $(below "$@")
     for name; do
-        native bin "$name" "target/bin/$name" &
+        quietly tools/native bin "$name" "target/native/$name" &
         jobs+=($!)
     done
     for job in "${jobs[@]}"; do wait "$job"; done
+}
+
+build_host() { # to libhost.a
+    if [ "$(uname -m)" = x86_64 ]; then
+        quietly rt staticlib host
+        cp target/staticlib/libhost.a target/native
+        return
+    fi
+    quietly rt check $(below host)
+    quietly tools/native lib host target/native/libhost.a
 }
 
 build_over_host() { # NAME, of tests/NAME.c
