@@ -7,8 +7,7 @@ use lib.Dec.{eqb, ltb}
 use Rattle.search.specs.Search.{pick}
 use Rattle.pool.specs.declared.Frame.{Frame}
 use Rattle.pool.specs.declared.Pool.{Pool}
-use Rattle.pool.specs.Pool.{frameAt}
-use Rattle.table.specs.Table.{withDirty}
+use Rattle.pool.specs.Pool.{frameAt, withDirty}
 use Rattle.victim.specs.Choice.{unpinned}
 use Rattle.victim.specs.Lru.{older}
 use Rattle.victim.specs.Watt.{lessValue}

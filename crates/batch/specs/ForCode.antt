@@ -1,4 +1,5 @@
 -- What the functions of the code say of themselves. Who reads the rules passes this over.
+-- `rank-order` in proofs/ shows that comparing ranks is `batchOrder`.
 use Prim.Native.Nat.{ℕ, _+_, _-_, _*_, _%_, _≤_, _<_}
 use mathlib.Core.Path.{_≡_}
 use mathlib.Core.Bool.{Bool, false, true}
@@ -6,12 +7,12 @@ use mathlib.Core.List.{List}
 use lib.ListN.{getD, length}
 use Rattle.search.specs.Search.{pick}
 use Rattle.worth.specs.declared.Fraction.{Fraction}
-use Rattle.worth.specs.Value.{fraction, lessFraction, worthOf, valueOf}
+use Rattle.worth.specs.Value.{fraction, lessFraction}
 use Rattle.settings.specs.declared.Settings.{Settings}
 use Rattle.pool.specs.declared.Frame.{Frame}
 use Rattle.pool.specs.declared.Pool.{Pool}
 use Rattle.pool.specs.Pool.{frameAt}
-use Rattle.victim.specs.Watt.{valueAt}
+use Rattle.victim.specs.Watt.{valueIn, valueAt}
 use Rattle.victim.specs.Rules.{byRule}
 use Rattle.batch.specs.Taken.{othersTo}
 use Rattle.batch.specs.Batch.{distance, waits, batchOf, cleaned, pagesOf}
@@ -29,7 +30,7 @@ rankFrom s hand fr i access write epoch =
     byRule (s .rule)
     (fraction (fr .last) 1)
     (fraction (fr .count * 128 + (i + s .frames - hand) % s .frames) 1)
-    (valueOf (worthOf access (i * 8) (fr .accesses) epoch) (worthOf write (i * 4) (fr .writes) epoch) (s .weight))
+    (valueIn fr access write i (s .weight) epoch)
 
 -- bounds of those parts, which hold in a sound pool
 pub record Rankable (s : Settings) (hand : ℕ) (fr : Frame) (i epoch : ℕ) : Type 0 where

@@ -166,7 +166,7 @@ fn write_others(
 }
 
 // The batch of victim v: a clean one writes nothing; a dirty one's page goes to `out` at `at`, and those of the others after it. How many pages
-// that are.
+// that is.
 pub fn write<'a>(
     h: Head,
     table: &mut [u32; 1024],

@@ -15,7 +15,7 @@ use Rattle.pool.proofs.Sound.{told}
 use Rattle.pool.proofs.ByFrame.{passed-sound}
 use Rattle.table.specs.declared.Head.{Head}
 use Rattle.table.specs.Table.{framesIn, headOf, poolIn}
-use Rattle.table.proofs.Held.{opened}
+use Rattle.table.proofs.Held.{of-parts}
 use Rattle.reference.specs.ForCode.{DistinctPages, UsedLowest}
 use Rattle.reference.proofs.Free.{distinct-pages, used-lowest}
 use Rattle.victim.proofs.watt.Values.{fitting}
@@ -47,7 +47,7 @@ found-sound p r e z = passed-sound p (sym e ∙ z)
 -- a pool as its head, its table and its logs
 module _ (p : Pool) (g : Head) (tab : List ℕ) (e : g ≡ headOf p) (f : framesIn tab ≡ p .frames) where
   same : p ≡ poolIn g tab (p .access) (p .write)
-  same = sym (opened p g tab e f)
+  same = sym (of-parts p g tab e f)
 
   pub parts-enterable : (w : Row) → Enterable p w → Enterable (poolIn g tab (p .access) (p .write)) w
   parts-enterable w h = subst (λ (q : Pool). Enterable q w) same h

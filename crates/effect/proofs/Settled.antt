@@ -14,11 +14,11 @@ use Rattle.pool.specs.declared.Pool.{Pool}
 use Rattle.pool.specs.Pool.{referenceLimit}
 use Rattle.pool.specs.Sound.{soundPool}
 use Rattle.reference.specs.Search.{findPage}
-use Rattle.reference.specs.ForCode.{freeFor}
+use Rattle.reference.proofs.Free.{freeFor}
 use Rattle.tally.specs.declared.Row.{Row}
 use Rattle.tally.specs.Rows.{row, hit, missUnused, missClean, unpinned, refusedRow}
 use Rattle.effect.specs.Record.{pinLimit, pinsAt}
-use Rattle.effect.specs.ForCode.{Framed, settledHit, settledMiss, settledReference, settledUnpin, settledBy, placeOf, settledOf}
+use Rattle.effect.specs.ForCode.{Framed, settledHit, settledMiss, settledReference, settledUnpin, settledBy, placeOf}
 use Rattle.effect.proofs.Ways.{found-few, unused-few}
 
 -- a row that is settled so, in a frame
@@ -102,6 +102,11 @@ free-framed p (At j) free s e i h = absurd (nothing-at i (sym e ∙ h))
     nothing-at : (i : ℕ) → _≡_ {A = Found} Nothing (At i) → ⊥
     nothing-at i q = let z : _≡_ {A = ℕ} 0 1 = ap (λ (f : Found). onFound f (λ _. 1) 0) q in omega arith
 free-framed p Nothing free s e i h = unused-few p i s (sym e ∙ h)
+
+-- the row, but where a victim is wanted
+abbrev pub settledOf : Pool → ℕ → ℕ → Row
+settledOf p page kind =
+    settledBy (p .k) (findPage (p .frames) page) (pinsAt p (placeOf (findPage (p .frames) page))) (freeFor p (findPage (p .frames) page)) kind
 
 -- the row of a record from what was found in its pool
 pub settled-is : (p : Pool) (page kind pins : ℕ) (found free : Found) (w : Row) → found ≡ findPage (p .frames) page → free ≡ freeFor p found → pins ≡ pinsAt p (placeOf found)

@@ -20,7 +20,7 @@ use Rattle.table.specs.declared.Head.{Head}
 use Rattle.table.specs.Table.{poolIn}
 use Rattle.table.proofs.Held.{frames-long}
 use Rattle.reference.specs.Search.{findPage, lowestUnused}
-use Rattle.reference.specs.ForCode.{freeFor}
+use Rattle.reference.proofs.Free.{freeFor}
 use Rattle.reference.specs.Reference.{hitAt, unpinnedAt}
 use Rattle.victim.specs.Choice.{leftBy}
 use Rattle.victim.specs.Rules.{choiceOf}
@@ -30,8 +30,9 @@ use Rattle.batch.proofs.Laws.{batch-sized}
 use Rattle.tally.specs.declared.Row.{Row}
 use Rattle.tally.specs.Rows.{row, hit, missUnused, missClean, unpinned, refusedRow}
 use Rattle.effect.specs.Record.{Did, did, pinLimit, pinsAt, refusal, pinnedWhere, filled, hitOf, leavingOf, evictionOf, missOf, referenceOf, unpinOf, recordOf}
-use Rattle.effect.specs.declared.Played.{Played}
-use Rattle.effect.specs.ForCode.{Effect, effectIn, Leaves, Plays, Enterable, RoomMade, settledHit, settledMiss, settledReference, settledUnpin, settledBy, placeOf, settledOf, roomRow, roomPages, roomFrames, roomed, entered, fullOf}
+use Rattle.effect.specs.declared.Worked.{Worked}
+use Rattle.effect.specs.ForCode.{Effect, effectIn, Leaves, Plays, Enterable, RoomMade, settledHit, settledMiss, settledReference, settledUnpin, settledBy, placeOf, roomRow, roomPages, roomFrames, roomed, entered, fullOf}
+use Rattle.effect.proofs.Settled.{settledOf}
 use Rattle.effect.proofs.Ways.{found-few, unused-few, at-limit, resident, absent, free, full, victim, no-victim, pins-full, pins-free, unpin-absent, unpin-none, unpin-one}
 use Rattle.effect.proofs.Placed.{entered-hit, entered-free, entered-left, entered-unpin, entered-none}
 
@@ -183,7 +184,7 @@ module _ (p : Pool) (s : soundPool p ≡ true) (z : Sized p) (page kind at : ℕ
         list = ap (sets list at) (k .written);
       }
 
-  pub played-roomed : (w : Row) (r : Played) (t access write before after : List ℕ) → w ≡ settledOf p page kind → w .outcome ≡ missClean
+  pub played-roomed : (w : Row) (r : Worked) (t access write before after : List ℕ) → w ≡ settledOf p page kind → w .outcome ≡ missClean
       → effectIn r t access write ≡ fullOf p page kind → after ≡ sets before at (roomPages p) → Leaves (recordOf p page kind) at r t access write before after
   played-roomed w r t access write before after e c h l =
       let k = worked-roomed p (told p s) z page kind (sym (ap (λ (x : Row). x .outcome) e) ∙ c) in
@@ -198,13 +199,13 @@ module _ (p : Pool) (s : soundPool p ≡ true) (z : Sized p) (page kind at : ℕ
       subst (λ (l : List ℕ). at + length l ≤ places) (sym (k .written)) (h .room)
 
 -- a record entered where room was made
-pub full-is : (p : Pool) (r : Played) (at page kind : ℕ) (q : Pool) (t before after : List ℕ) → RoomMade p at r t before after
+pub full-is : (p : Pool) (r : Worked) (at page kind : ℕ) (q : Pool) (t before after : List ℕ) → RoomMade p at r t before after
     → q ≡ entered (poolIn (r .head) t (p .access) (p .write)) (r .row) page kind
     → _≡_ {A = Effect} (record { row = r .row; pool = q }) (fullOf p page kind)
 full-is p r at page kind q t before after m h = rw (h, m .row, m .pool)
 
 -- room may be entered
-pub room-enterable : (p : Pool) (r : Played) (at : ℕ) (t before after : List ℕ) → soundPool p ≡ true → RoomMade p at r t before after → Enterable (poolIn (r .head) t (p .access) (p .write)) (r .row)
+pub room-enterable : (p : Pool) (r : Worked) (at : ℕ) (t before after : List ℕ) → soundPool p ≡ true → RoomMade p at r t before after → Enterable (poolIn (r .head) t (p .access) (p .write)) (r .row)
 room-enterable p r at t before after s m =
     let a = enterable p (r .row) s (m .frame) in
     subst (λ (q : Pool). Enterable q (r .row)) (sym (m .pool)) (record { frame = a .frame; epoch = a .epoch; cap = a .cap; few = a .few })

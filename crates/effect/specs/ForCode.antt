@@ -1,4 +1,5 @@
 -- What the functions of the code say of themselves. Who reads the rules passes this over.
+-- `worked-settled` and `worked-roomed` in proofs/ show that settling, making room and entering is `recordOf`.
 use Prim.Native.Nat.{ℕ, _+_, _≤_, zero, suc, _-_, _*_, _<_}
 use mathlib.Core.Path.{_≡_}
 use mathlib.Core.Bool.{true, Bool, false, _&&_, _||_, not}
@@ -9,8 +10,8 @@ use Rattle.pool.specs.declared.Pool.{Pool}
 use Rattle.pool.specs.Sound.{soundPool}
 use Rattle.table.specs.Table.{poolIn}
 use Rattle.tally.specs.declared.Row.{Row}
-use Rattle.effect.specs.declared.Played.{Played}
-use Rattle.effect.specs.Record.{Did, pinLimit, pinsAt}
+use Rattle.effect.specs.declared.Worked.{Worked}
+use Rattle.effect.specs.Record.{Did, pinLimit}
 use lib.Dec.{eqb, leb}
 use Rattle.search.specs.declared.Found.{Found}
 use Rattle.search.specs.declared.Found.the-variants.{At}
@@ -18,8 +19,6 @@ use Rattle.search.specs.Search.{pick, onFound, oneIf}
 use Rattle.refusal.specs.Refusals.{badField, noReferenceLeft, noFrame, notPinned, pinsFull}
 use Rattle.pool.specs.declared.Frame.{Frame}
 use Rattle.pool.specs.Pool.{referenceLimit, accessRoom, writeRoom, frameAt, nowOf}
-use Rattle.reference.specs.Search.{findPage}
-use Rattle.reference.specs.ForCode.{freeFor}
 use Rattle.reference.specs.Logs.{cleared, lengthWith, logWith}
 use Rattle.reference.specs.Reference.{raised, withPins}
 use Rattle.victim.specs.Choice.{leftBy}
@@ -37,11 +36,11 @@ abbrev pub effectOf : Did → Effect
 effectOf d = record { row = d .row; pool = d .pool }
 
 -- what the code answers, with the table and the logs as it leaves them
-abbrev pub effectIn : Played → List ℕ → List ℕ → List ℕ → Effect
+abbrev pub effectIn : Worked → List ℕ → List ℕ → List ℕ → Effect
 effectIn r t access write = record { row = r .row; pool = poolIn (r .head) t access write }
 
 -- row and pool as they should be, the pages written put to the lent list from `at` on, and every other place as it was
-pub record Leaves (d : Did) (at : ℕ) (r : Played) (t access write before after : List ℕ) : Type 0 where
+pub record Leaves (d : Did) (at : ℕ) (r : Worked) (t access write before after : List ℕ) : Type 0 where
   pub effect : effectIn r t access write ≡ effectOf d
   pub list : after ≡ sets before at (d .written)
 
@@ -85,11 +84,6 @@ abbrev pub placeOf : Found → ℕ
 placeOf found = onFound found (λ i. i) 0
 
 module _ (p : Pool) where
-  -- the row, but where a victim is wanted
-  abbrev pub settledOf : ℕ → ℕ → Row
-  settledOf page kind =
-      settledBy (p .k) (findPage (p .frames) page) (pinsAt p (placeOf (findPage (p .frames) page))) (freeFor p (findPage (p .frames) page)) kind
-
   -- where a victim is wanted: the row
   unfoldable pub roomRow : Row
   roomRow = onFound (choiceOf p .found) (λ v. row (pick (frameAt (choiceOf p .frames) v .dirty) missDirty missClean) v (frameAt (choiceOf p .frames) v .page) (length (batchOf (leftBy p (choiceOf p)) v))) (refusedRow noFrame)
@@ -107,7 +101,7 @@ module _ (p : Pool) where
   roomed = record { settings = p .settings; k = p .k; hand = choiceOf p .hand; sampler = choiceOf p .sampler; frames = roomFrames; access = p .access; write = p .write }
 
 -- what making room leaves
-pub record RoomMade (p : Pool) (at : ℕ) (r : Played) (t before after : List ℕ) : Type 0 where
+pub record RoomMade (p : Pool) (at : ℕ) (r : Worked) (t before after : List ℕ) : Type 0 where
   pub row : r .row ≡ roomRow p
   pub pool : poolIn (r .head) t (p .access) (p .write) ≡ roomed p
   pub list : after ≡ sets before at (roomPages p)

@@ -17,7 +17,7 @@ ghost use Rattle.effect.specs.Record.{recordOf};
 ghost use Rattle.effect.specs.ForCode.{effectIn, Leaves, Plays, settledHit, settledMiss, settledReference, settledUnpin, settledBy, placeOf, roomPages, RoomMade, Framed, pinsWith, hitFrame, fetchedFrame, enteringFrame, Enterable, entered, fullOf};
 
 // A record's row, and settings, k, hand and sampler number afterwards. Frames and logs are changed where they stand.
-pub struct Played {
+pub struct Worked {
     pub row: Row,
     pub head: Head,
 }
@@ -142,7 +142,7 @@ fn make_room<'a>(
     write: &'a [u32; 512],
     out: &mut [u32],
     at: usize,
-) -> Played
+) -> Worked
     requires { ⌜ (soundPool (poolIn h (now table) (now access) (now write)) ≡ true) × (at + length (roomPages (poolIn h (now table) (now access) (now write))) ≤ length (now out)) ⌝ }
     ensures { λ r. ⌜ RoomMade (poolIn h (now (table .entry)) (now (access .entry)) (now (write .entry))) at r (now (table .exit)) (now (out .entry)) (now (out .exit)) ⌝ }
 {
@@ -153,7 +153,7 @@ fn make_room<'a>(
     let found = c.found;
     let Found::At(v) = found else {
         let none = tally::refused_row(refusal::NO_FRAME);
-        return Played {
+        return Worked {
             row: none,
             head: left,
         };
@@ -161,7 +161,7 @@ fn make_room<'a>(
     let fr = table::frame_at(table, v);
     let n = batch::write(left, table, access, write, v, out, at);
     let row = leaving_row(fr, v, n);
-    Played {
+    Worked {
         row: row,
         head: left,
     }
@@ -214,7 +214,7 @@ fn unpinned_frame(fr: Frame) -> Frame
     g
 }
 
-// The frame of a record with that outcome, but for its logs.
+// The frame of a record with that outcome (a hit, a miss, an unpin, else refused), but for its logs.
 fn entering(fr: Frame, outcome: u32, page: u32, kind: u16, cap: u16, k: u32) -> Frame
     requires { ⌜ cap ≤ 7 ⌝ }
     ensures { λ r. ⌜ r ≡ enteringFrame fr outcome page kind cap k ⌝ }
@@ -227,7 +227,8 @@ fn entering(fr: Frame, outcome: u32, page: u32, kind: u16, cap: u16, k: u32) -> 
     }
 }
 
-// A record with that row, on a pool that has room for it.
+// A record with that row, on a pool that has room for it: its frame and logs changed where they stand, and the head then. A refused one, whose row
+// names frame 0, leaves all as it was.
 pub fn enter(
     h: Head,
     table: &mut [u32; 1024],
@@ -265,7 +266,7 @@ fn play_full(
     kind: u16,
     out: &mut [u32],
     at: usize,
-) -> Played
+) -> Worked
     requires { ⌜ (soundPool (poolIn h (now table) (now access) (now write)) ≡ true) × (at + length (roomPages (poolIn h (now table) (now access) (now write))) ≤ length (now out)) ⌝ }
     ensures { λ r. ⌜ (effectIn r (now (table .exit)) (now (access .exit)) (now (write .exit)) ≡ fullOf (poolIn h (now (table .entry)) (now (access .entry)) (now (write .entry))) page kind)
         × (now (out .exit) ≡ sets (now (out .entry)) at (roomPages (poolIn h (now (table .entry)) (now (access .entry)) (now (write .entry))))) ⌝ }
@@ -274,7 +275,7 @@ fn play_full(
     let row = room.row;
     let roomy = room.head;
     let left = enter(roomy, table, access, write, row, page, kind);
-    Played {
+    Worked {
         row: row,
         head: left,
     }
@@ -290,19 +291,20 @@ pub fn play(
     kind: u16,
     out: &mut [u32],
     at: usize,
-) -> Played
+) -> Worked
     requires { ⌜ Plays (poolIn h (now table) (now access) (now write)) (recordOf (poolIn h (now table) (now access) (now write)) page kind) at (length (now out)) ⌝ }
     ensures { λ r. ⌜ Leaves (recordOf (poolIn h (now (table .entry)) (now (access .entry)) (now (write .entry))) page kind) at r (now (table .exit)) (now (access .exit)) (now (write .exit)) (now (out .entry)) (now (out .exit)) ⌝ }
 {
     let found = reference::find(table, page);
     let free = reference::free_for(table, h.settings.frames, found);
+    // Where nothing was found these are the pins of frame 0, which are not looked at.
     let old = table::frame_at(table, place_of(found));
     let row = settle(h.k, found, old.pins, free, kind);
     if row.outcome == tally::MISS_CLEAN {
         return play_full(h, table, access, write, page, kind, out, at);
     }
     let left = enter(h, table, access, write, row, page, kind);
-    Played {
+    Worked {
         row: row,
         head: left,
     }

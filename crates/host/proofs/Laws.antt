@@ -15,7 +15,7 @@ use Rattle.trace.specs.declared.Checked.the-variants.{Accepted, Refused}
 use Rattle.trace.specs.Check.{refusalOf, checkOf, traceOf}
 use Rattle.trace.proofs.Accept.{accepted, accepted-range, refused-is}
 use Rattle.pool.specs.declared.Opened.{Opened}
-use Rattle.pool.specs.Pool.{emptyPool, freshOf}
+use Rattle.pool.specs.Pool.{freshPool, freshOf}
 use Rattle.pool.specs.Sound.{soundPool}
 use Rattle.pool.proofs.Opening.{fresh-sound}
 use Rattle.tally.specs.declared.Tally.{Tally}
@@ -25,7 +25,7 @@ use Rattle.replay.specs.Calls.{mayBegin, countsRefusal, countsOf}
 use Rattle.host.specs.Counts.{countsLength, countBytes, freshCounts, hostRefusal, CountsInto}
 
 -- a fresh pool by settings in range
-fresh-pool : (x : Settings) → inRange x ≡ true → freshOf x .pool ≡ emptyPool x
+fresh-pool : (x : Settings) → inRange x ≡ true → freshOf x .pool ≡ freshPool x
 unfolding freshOf
 fresh-pool x r = rw r
 
@@ -33,13 +33,13 @@ zero-within : tallyWithin zeroTally ≡ true
 unfolding tallyWithin
 zero-within = refl
 
-may-begin : (x : Settings) → inRange x ≡ true → mayBegin (emptyPool x) zeroTally ≡ true
+may-begin : (x : Settings) → inRange x ≡ true → mayBegin (freshPool x) zeroTally ≡ true
 unfolding mayBegin
-may-begin x r = let s : soundPool (emptyPool x) ≡ true = rw (fresh-pool x r) at (fresh-sound x) in rw (s, zero-within)
+may-begin x r = let s : soundPool (freshPool x) ≡ true = rw (fresh-pool x r) at (fresh-sound x) in rw (s, zero-within)
 
 -- nothing refuses an accepted trace from a fresh pool by its own settings
-not-refused : (s : List ℕ) → refusalOf s ≡ 0 → inRange (traceOf s .settings) ≡ true → countsRefusal (emptyPool (traceOf s .settings)) zeroTally s ≡ 0
-unfolding countsRefusal emptyPool
+not-refused : (s : List ℕ) → refusalOf s ≡ 0 → inRange (traceOf s .settings) ≡ true → countsRefusal (freshPool (traceOf s .settings)) zeroTally s ≡ 0
+unfolding countsRefusal freshPool
 not-refused s e r = rw (may-begin (traceOf s .settings) r, e, same-self (traceOf s .settings))
 
 pub fresh-counts-are : (s : List ℕ) (h : Summary) (o : Opened) (t : Tally) (e : Ended) → checkOf s ≡ Accepted h → o ≡ freshOf (h .settings) → t ≡ zeroTally → e ≡ countsOf (o .pool) t s
@@ -48,7 +48,7 @@ unfolding freshCounts countsOf
 fresh-counts-are s h o t e a x y z =
     let k = accepted s h a in
     let r = accepted-range s h a in
-    let same : o .pool ≡ emptyPool (traceOf s .settings) = ap (λ (v : Opened). v .pool) x ∙ ap (λ (v : Summary). freshOf (v .settings) .pool) (k .1) ∙ fresh-pool (traceOf s .settings) r in
+    let same : o .pool ≡ freshPool (traceOf s .settings) = ap (λ (v : Opened). v .pool) x ∙ ap (λ (v : Summary). freshOf (v .settings) .pool) (k .1) ∙ fresh-pool (traceOf s .settings) r in
     ap (λ (v : Ended). v .tally) z ∙ rw (same, y, not-refused s (k .0) r)
 
 -- the calls

@@ -10,7 +10,7 @@ use Rattle.word.specs.Number.{bytesOf}
 use Rattle.refusal.specs.Refusals.{demand, orElse, noRoom}
 use Rattle.trace.specs.Layout.{Trace}
 use Rattle.trace.specs.Check.{refusalOf, traceOf}
-use Rattle.pool.specs.Pool.{emptyPool}
+use Rattle.pool.specs.Pool.{freshPool}
 use Rattle.tally.specs.declared.Tally.{Tally}
 use Rattle.tally.specs.Tally.{zeroTally}
 use Rattle.replay.specs.Replay.{replayOf}
@@ -26,7 +26,7 @@ countBytes o t = bytesOf o 4 (t .hits) ++ bytesOf o 4 (t .misses) ++ bytesOf o 4
 
 -- replay to counts from a fresh pool and zero tally
 unfoldable pub freshCounts : Trace → Tally
-freshCounts trace = replayOf (emptyPool (trace .settings)) zeroTally trace .tally
+freshCounts trace = replayOf (freshPool (trace .settings)) zeroTally trace .tally
 
 -- the trace's refusals, then 13
 unfoldable pub hostRefusal : List ℕ → ℕ → ℕ

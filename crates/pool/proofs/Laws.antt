@@ -12,15 +12,15 @@ use Rattle.refusal.specs.Refusals.{outOfRange}
 use Rattle.settings.specs.declared.Settings.{Settings}
 use Rattle.settings.specs.Settings.{inRange}
 use Rattle.pool.specs.declared.Pool.{Pool}
-use Rattle.pool.specs.Pool.{oneFrame, emptyPool, opened, freshOf}
+use Rattle.pool.specs.Pool.{oneFrame, freshPool, opened, freshOf}
 use Rattle.pool.specs.Sound.{placeAt, soundLog}
 
 -- the two ways through a fresh pool
-pub fresh-whole : (s : Settings) (p : Pool) → inRange s ≡ true → p ≡ emptyPool s → opened 0 p ≡ freshOf s
+pub fresh-whole : (s : Settings) (p : Pool) → inRange s ≡ true → p ≡ freshPool s → opened 0 p ≡ freshOf s
 unfolding freshOf
 fresh-whole s p e d = rw (e, d)
 
-pub fresh-small : (s t : Settings) (p : Pool) → inRange s ≡ false → t ≡ oneFrame → p ≡ emptyPool t → opened outOfRange p ≡ freshOf s
+pub fresh-small : (s t : Settings) (p : Pool) → inRange s ≡ false → t ≡ oneFrame → p ≡ freshPool t → opened outOfRange p ≡ freshOf s
 unfolding freshOf
 fresh-small s t p e c d = rw (e, d, c)
 

@@ -1,4 +1,5 @@
 -- What the functions of the code say of themselves. Who reads the rules passes this over.
+-- `by-frame` in proofs/ shows that the check, frame by frame, is `soundPool`.
 use Prim.Native.Nat.{ℕ}
 use mathlib.Core.Bool.{Bool, _&&_, _||_, not}
 use lib.Dec.{eqb, ltb}

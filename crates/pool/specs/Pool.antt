@@ -1,6 +1,6 @@
 -- The pool: what it holds, a fresh one, and the epoch.
 use Prim.Native.Nat.{ℕ, _/_}
-use mathlib.Core.Bool.{false}
+use mathlib.Core.Bool.{Bool, false}
 use mathlib.Core.List.{List}
 use lib.ListN.{getD, replicate}
 use Rattle.search.specs.Search.{pick}
@@ -36,8 +36,8 @@ abbrev pub frameAt : List Frame → ℕ → Frame
 frameAt fs i = getD fs i emptyFrame
 
 -- a fresh pool has no frame in use, and k and hand 0; its sampler number is the seed
-unfoldable pub emptyPool : Settings → Pool
-emptyPool s = record {
+unfoldable pub freshPool : Settings → Pool
+freshPool s = record {
   settings = s;
   k = 0;
   hand = 0;
@@ -57,15 +57,19 @@ opened r p = record { refusal = r; pool = p }
 
 -- a fresh pool refused by 8 comes back as that pool of one frame
 unfoldable pub freshOf : Settings → Opened
-freshOf s = pick (inRange s) (opened 0 (emptyPool s)) (opened outOfRange (emptyPool oneFrame))
+freshOf s = pick (inRange s) (opened 0 (freshPool s)) (opened outOfRange (freshPool oneFrame))
 
 -- a step's epoch is the step divided by the epoch length, rounded down
 abbrev pub epochAt : Settings → ℕ → ℕ
 epochAt s step = step / s .epoch
 
 -- now is k's epoch, with k taken before the reference
+abbrev pub nowAt : Settings → ℕ → ℕ
+nowAt s k = epochAt s k
+
+-- a pool's now
 unfoldable pub nowOf : Pool → ℕ
-nowOf p = epochAt (p .settings) (p .k)
+nowOf p = nowAt (p .settings) (p .k)
 
 -- a last step's epoch likewise: of frame i
 unfoldable pub lastEpochOf : Pool → ℕ → ℕ
@@ -74,6 +78,10 @@ lastEpochOf p i = epochAt (p .settings) (frameAt (p .frames) i .last)
 -- a frame with another clock count
 abbrev pub withCount : Frame → ℕ → Frame
 withCount fr n = record { used = fr .used; page = fr .page; dirty = fr .dirty; pins = fr .pins; count = n; last = fr .last; accesses = fr .accesses; writes = fr .writes }
+
+-- a frame that is dirty or clean
+abbrev pub withDirty : Frame → Bool → Frame
+withDirty fr dirty = record { used = fr .used; page = fr .page; dirty = dirty; pins = fr .pins; count = fr .count; last = fr .last; accesses = fr .accesses; writes = fr .writes }
 
 -- a frame with another page
 abbrev pub withPage : Frame → ℕ → Frame

@@ -5,7 +5,7 @@ ghost use mathlib.Core.Bool.{true};
 ghost use Prim.Native.Nat.{_+_, _*_, _<_, _≤_};
 ghost use lib.ListN.{length};
 ghost use Rattle.search.specs.Search.{everyBelow};
-ghost use Rattle.pool.specs.Pool.{oneFrame, emptyPool, freshOf};
+ghost use Rattle.pool.specs.Pool.{oneFrame, freshPool, freshOf};
 ghost use Rattle.pool.specs.Sound.{placeSound, soundLog, zeroFrame, checkOf};
 ghost use Rattle.pool.specs.ForCode.{pairSound, pairsSound, fieldsSound, besideSound, frameSound};
 
@@ -40,8 +40,8 @@ pub struct Opened {
 }
 
 // A pool with no frame in use, its sampler number the seed.
-fn empty_pool(settings: Settings) -> Pool
-    ensures { λ r. ⌜ r ≡ emptyPool settings ⌝ }
+fn fresh_pool(settings: Settings) -> Pool
+    ensures { λ r. ⌜ r ≡ freshPool settings ⌝ }
 {
     let frame = Frame {
         used: false,
@@ -85,14 +85,14 @@ pub fn fresh(settings: Settings) -> Opened
     ensures { λ r. ⌜ r ≡ freshOf settings ⌝ }
 {
     if settings::in_range(settings) {
-        let whole = empty_pool(settings);
+        let whole = fresh_pool(settings);
         return Opened {
             refusal: 0,
             pool: whole,
         };
     }
     let least = one_frame();
-    let small = empty_pool(least);
+    let small = fresh_pool(least);
     Opened {
         refusal: refusal::OUT_OF_RANGE,
         pool: small,

@@ -16,7 +16,7 @@ use Rattle.pool.specs.declared.Pool.{Pool}
 use Rattle.pool.specs.Pool.{frameAt}
 use Rattle.pool.proofs.Sound.{Sound}
 use Rattle.reference.specs.Search.{unused, lowestUnused}
-use Rattle.reference.specs.ForCode.{freeIn, UsedLowest, DistinctPages, freeFor}
+use Rattle.reference.specs.ForCode.{freeIn, UsedLowest, DistinctPages}
 
 module _ (fs : List Frame) (f : ℕ) (last : Bool) where
   pub bound-few : (found : Found) (n : ℕ) → n ≡ onFound found (λ _. 0) (pick last 0 f) → f ≤ 128 → n ≤ 128
@@ -29,17 +29,20 @@ module _ (fs : List Frame) (f : ℕ) (last : Bool) where
       pick-ind (λ k. n ≡ k → At i ≡ leastBelow (unused fs) never f) last 0 f (λ _ q. absurd (omega arith)) (λ _ q. sym (first-found (unused fs) f i (omega arith) h u)) e
 
   -- where the last frame is in use, no frame is unused
-  none-unused : 0 < f → f ≤ 128 → UsedLowest fs → last ≡ frameAt fs (f - 1) .used → last ≡ true → leastBelow (unused fs) never f ≡ Nothing
-  none-unused z l w e t =
+  full-none : 0 < f → f ≤ 128 → UsedLowest fs → last ≡ frameAt fs (f - 1) .used → last ≡ true → leastBelow (unused fs) never f ≡ Nothing
+  full-none z l w e t =
       least-none-of (unused fs) never f
       (λ j b. ap not (⊎-elim (λ (q : j ≡ f - 1). ap (λ (k : ℕ). frameAt fs k .used) q ∙ sym e ∙ t) (λ (q : j < f - 1). w (f - 1) j (omega arith) q (sym e ∙ t)) (eq-or-lt-of-le (omega arith))))
 
   pub free-none : (found : Found) (n i : ℕ) → 0 < f → f ≤ 128 → UsedLowest fs → last ≡ frameAt fs (f - 1) .used → n ≡ onFound found (λ _. 0) (pick last 0 f) → i ≡ n → leastBelow (unused fs) never i ≡ Nothing → Nothing ≡ freeIn fs f found
   free-none (At j) n i z l w t e q h = refl
   free-none Nothing n i z l w t e q h =
-      pick-ind (λ k. n ≡ k → Nothing ≡ leastBelow (unused fs) never f) last 0 f (λ x _. sym (none-unused z l w t x)) (λ _ r. sym (subst (λ (k : ℕ). leastBelow (unused fs) never k ≡ Nothing) (q ∙ r) h)) e
+      pick-ind (λ k. n ≡ k → Nothing ≡ leastBelow (unused fs) never f) last 0 f (λ x _. sym (full-none z l w t x)) (λ _ r. sym (subst (λ (k : ℕ). leastBelow (unused fs) never k ≡ Nothing) (q ∙ r) h)) e
 
--- of the frames of a pool, below its f
+-- the search for an unused frame of a pool, below its f
+abbrev pub freeFor : Pool → Found → Found
+freeFor p found = onFound found (λ _. Nothing) (lowestUnused p)
+
 pub free-is : (p : Pool) (found free : Found) → free ≡ freeIn (p .frames) (p .settings .frames) found → free ≡ freeFor p found
 unfolding lowestUnused
 free-is p found free e = e

@@ -7,9 +7,8 @@ use Rattle.search.specs.Search.{pick, onFound, leastBelow, never}
 use Rattle.search.specs.declared.Found.{Found}
 use Rattle.search.specs.declared.Found.the-variants.{Nothing}
 use Rattle.pool.specs.declared.Frame.{Frame}
-use Rattle.pool.specs.declared.Pool.{Pool}
 use Rattle.pool.specs.Pool.{frameAt}
-use Rattle.reference.specs.Search.{unused, lowestUnused}
+use Rattle.reference.specs.Search.{unused}
 
 -- the lowest unused of some frames below f, looked for only where a page was not found
 abbrev pub freeIn : List Frame → ℕ → Found → Found
@@ -18,10 +17,6 @@ freeIn fs f found = onFound found (λ _. Nothing) (leastBelow (unused fs) never 
 -- the frames in use are the lowest-numbered, as in a sound pool
 abbrev pub UsedLowest : List Frame → Type 0
 UsedLowest fs = (i j : ℕ) → i < 128 → j < i → frameAt fs i .used ≡ true → frameAt fs j .used ≡ true
-
--- the same of a pool, below its f
-abbrev pub freeFor : Pool → Found → Found
-freeFor p found = onFound found (λ _. Nothing) (lowestUnused p)
 
 -- no two frames in use hold one page, as in a sound pool
 abbrev pub DistinctPages : List Frame → Type 0

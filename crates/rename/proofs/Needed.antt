@@ -13,7 +13,7 @@ use Rattle.trace.specs.Layout.{traceFrom, settingsAt, traceAt}
 use Rattle.trace.specs.Encode.{headerBytes, recordBytes, encode}
 use Rattle.trace.specs.Check.{layoutRefusal, contentRefusal, refusalIn, refusalOf, traceOf}
 use Rattle.trace.proofs.Bytes.{encode-bytes}
-use Rattle.pool.specs.Pool.{oneFrame, emptyPool, nowOf, lastEpochOf}
+use Rattle.pool.specs.Pool.{oneFrame, freshPool, nowOf, lastEpochOf}
 use Rattle.pool.specs.Sound.{soundLog, soundPool}
 use Rattle.reference.specs.Search.{findPage, lowestUnused}
 use Rattle.reference.specs.Logs.{putFront, cleared, lengthWith, logWith}
@@ -38,7 +38,7 @@ unfolding traceOf traceAt settingsAt encode headerBytes recordBytes
 merged-trace = refl
 
 pool-sound : soundPool pool ≡ true
-unfolding soundPool soundLog everyBelow inRange lastEpochOf emptyPool recordOf referenceOf missOf findPage lowestUnused leastBelow fetchedAt referred nowOf putFront cleared lengthWith logWith
+unfolding soundPool soundLog everyBelow inRange lastEpochOf freshPool recordOf referenceOf missOf findPage lowestUnused leastBelow fetchedAt referred nowOf putFront cleared lengthWith logWith
 pool-sound = refl
 
 bytes-accepted : refusalOf (encode trace) ≡ 0
@@ -47,7 +47,7 @@ bytes-accepted = refl
 
 -- both are given as the demand says
 given : Given pool (encode trace)
-unfolding emptyPool recordOf referenceOf missOf findPage lowestUnused leastBelow fetchedAt referred nowOf putFront cleared lengthWith logWith
+unfolding freshPool recordOf referenceOf missOf findPage lowestUnused leastBelow fetchedAt referred nowOf putFront cleared lengthWith logWith
 given = record { stored = record { bytes = encode-bytes trace; frames = refl; access = refl; write = refl }; sound = pool-sound; accepted = bytes-accepted }
 
 -- a renaming is one-to-one on one page
@@ -59,17 +59,17 @@ one-page x = record {
 }
 
 pool-page : residentPages (pool .frames) ≡ 1 ∷ []
-unfolding residentPages emptyPool recordOf referenceOf missOf findPage lowestUnused leastBelow fetchedAt referred
+unfolding residentPages freshPool recordOf referenceOf missOf findPage lowestUnused leastBelow fetchedAt referred
 pool-page = refl
 
 -- a miss becomes a hit
 pub counts-before : replayOf pool zeroTally (traceOf (encode trace)) .tally ≡ record { hits = 0; misses = 1; evictions = 1; batches = 0; written = 0; refused = 0 }
-unfolding countedBy replayTo recordOf referenceOf hitOf missOf evictionOf leavingOf emptyPool findPage lowestUnused leastBelow referred hitAt fetchedAt choiceOf lruChoice lruVictim batchOf cleaned pagesOf
+unfolding countedBy replayTo recordOf referenceOf hitOf missOf evictionOf leavingOf freshPool findPage lowestUnused leastBelow referred hitAt fetchedAt choiceOf lruChoice lruVictim batchOf cleaned pagesOf
 counts-before = rw bytes-trace refl
 
 pub counts-after : replayOf (renamedPool merging pool) zeroTally (traceOf (renamedBytes merging High (encode trace))) .tally
     ≡ record { hits = 1; misses = 0; evictions = 0; batches = 0; written = 0; refused = 0 }
-unfolding countedBy replayTo recordOf referenceOf hitOf missOf emptyPool findPage lowestUnused leastBelow referred hitAt fetchedAt
+unfolding countedBy replayTo recordOf referenceOf hitOf missOf freshPool findPage lowestUnused leastBelow referred hitAt fetchedAt
 counts-after = rw merged-trace refl
 
 -- so that the demand does not hold with less

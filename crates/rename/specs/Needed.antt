@@ -5,14 +5,14 @@ use Rattle.word.specs.declared.Order.the-variants.{High}
 use Rattle.trace.specs.Layout.{Trace, traceFrom}
 use Rattle.trace.specs.Check.{traceOf}
 use Rattle.pool.specs.declared.Pool.{Pool}
-use Rattle.pool.specs.Pool.{oneFrame, emptyPool}
+use Rattle.pool.specs.Pool.{oneFrame, freshPool}
 use Rattle.tally.specs.declared.Tally.{Tally}
 use Rattle.effect.specs.Record.{recordOf}
 use Rattle.rename.specs.Sameness.{residentPages, Renames, Given, OnlySameness}
 
 -- a pool of one frame after a read of page 1
 abbrev pub pool : Pool
-pool = recordOf (emptyPool oneFrame) 1 0 .pool
+pool = recordOf (freshPool oneFrame) 1 0 .pool
 
 -- a trace that reads page 2
 abbrev pub trace : Trace

@@ -10,12 +10,11 @@ use lib.Dec.{leb}
 use borrow.Author.Tests.{leb-true}
 use Rattle.trace.specs.declared.Summary.{Summary}
 use Rattle.trace.specs.declared.Record.{Record}
-use Rattle.trace.specs.declared.Checked.the-variants.{Accepted}
 use Rattle.trace.specs.Layout.{Trace, recordLimit, recordIn, writesIn}
-use Rattle.trace.specs.Check.{checkOf, traceOf}
+use Rattle.trace.specs.Check.{traceOf}
 use Rattle.search.proofs.Count.{count-few}
 use Rattle.trace.proofs.Lists.{writes-le}
-use Rattle.trace.proofs.Accept.{accepted-passed, counts-are}
+use Rattle.trace.proofs.Accept.{accepted-few, counts-are}
 use Rattle.pool.specs.declared.Frame.{Frame}
 use Rattle.pool.specs.declared.Pool.{Pool}
 use Rattle.pool.specs.Pool.{frameAt}
@@ -24,7 +23,7 @@ use Rattle.pool.proofs.Sound.{Sound, told, made}
 use Rattle.pool.proofs.Sizes.{Sized}
 use Rattle.table.specs.declared.Head.{Head}
 use Rattle.table.specs.Table.{framesIn, headOf, poolIn}
-use Rattle.table.proofs.Held.{opened}
+use Rattle.table.proofs.Held.{of-parts}
 use Rattle.tally.specs.declared.Tally.{Tally}
 use Rattle.tally.specs.Tally.{tallyLimit}
 use Rattle.tally.specs.ForCode.{Within, Countable}
@@ -39,10 +38,6 @@ use Rattle.replay.proofs.Laws.{doing}
 use Rattle.replay.proofs.Begins.{begins-sound, begins-within}
 use Rattle.replay.proofs.Going.{going, doing-few, doing-batch, written-fits}
 use Rattle.replay.proofs.Running.{Counting, Listing, same-doing, counting-all, listing-all}
-
--- an accepted trace has at most 8,000 records
-pub accepted-few : (s : List ℕ) (h : Summary) → checkOf s ≡ Accepted h → h .count ≤ recordLimit
-accepted-few s h e = let a = accepted-passed s h e in let f = a .0 .laid .few in let n = a .1 in omega arith
 
 dirty-few : (fs : List Frame) → dirtyIn fs ≤ 128
 unfolding dirtyIn
@@ -128,21 +123,21 @@ module _ (p : Pool) (g : Head) (tab : List ℕ) (e : g ≡ headOf p) (f : frames
   abbrev first : Pool
   first = poolIn g tab (p .access) (p .write)
 
-  -- so what a loop asks for, and the sizes, hold of them
+  -- what a loop asks for, and the sizes, hold of the pool of these parts
   pub begun : (t : Tally) (s : List ℕ) (h : Summary) → Ready p t s h → Ready first t s h
-  begun t s h y = subst (λ (q : Pool). Ready q t s h) (sym (opened p g tab e f)) y
+  begun t s h y = subst (λ (q : Pool). Ready q t s h) (sym (of-parts p g tab e f)) y
 
   pub begun-sized : Sized p → Sized first
-  begun-sized z = subst Sized (sym (opened p g tab e f)) z
+  begun-sized z = subst Sized (sym (of-parts p g tab e f)) z
 
   module _ (t : Tally) (trace : Trace) where
     -- and what it comes to in the end is about the pool
     pub counted-all : (q left : Pool) (u : Tally) (i : ℕ) → Counting first t trace q u i → left ≡ q → i ≡ length (trace .pages) → _≡_ {A = Ended} (endedAs 0 left u) (endedOf 0 p t (replayOf p t trace))
-    counted-all q left u i c l n = ap (λ (x : Pool). endedAs 0 x u) l ∙ counting-all p t trace q u i (subst (λ (x : Pool). Counting x t trace q u i) (opened p g tab e f) c) n
+    counted-all q left u i c l n = ap (λ (x : Pool). endedAs 0 x u) l ∙ counting-all p t trace q u i (subst (λ (x : Pool). Counting x t trace q u i) (of-parts p g tab e f) c) n
 
     pub listed-all : (rows₀ written₀ rows written : List ℕ) (at i : ℕ) → Listing first t trace rows₀ written₀ rows written at i → i ≡ length (trace .pages)
         → (rows ≡ sets rows₀ 0 (numbersOf (replayOf p t trace .rows))) × (written ≡ sets written₀ 0 (replayOf p t trace .written))
-    listed-all rows₀ written₀ rows written at i c n = listing-all p t trace rows₀ written₀ rows written at i (subst (λ (x : Pool). Listing x t trace rows₀ written₀ rows written at i) (opened p g tab e f) c) n
+    listed-all rows₀ written₀ rows written at i c n = listing-all p t trace rows₀ written₀ rows written at i (subst (λ (x : Pool). Listing x t trace rows₀ written₀ rows written at i) (of-parts p g tab e f) c) n
 
     pub room-first : (rows written : ℕ) → roomFor p trace rows written ≡ true → roomFor first trace rows written ≡ true
-    room-first rows written h = subst (λ (x : Pool). roomFor x trace rows written ≡ true) (sym (opened p g tab e f)) h
+    room-first rows written h = subst (λ (x : Pool). roomFor x trace rows written ≡ true) (sym (of-parts p g tab e f)) h

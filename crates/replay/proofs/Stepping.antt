@@ -22,7 +22,7 @@ use Rattle.tally.specs.ForCode.{Countable}
 use Rattle.tally.proofs.Laws.{within-more, within-countable}
 use Rattle.effect.specs.Record.{recordOf}
 use Rattle.table.specs.Table.{poolIn}
-use Rattle.effect.specs.declared.Played.{Played}
+use Rattle.effect.specs.declared.Worked.{Worked}
 use Rattle.effect.specs.ForCode.{Effect, effectOf, Leaves, Plays}
 use Rattle.effect.proofs.Kept.{record-kept}
 use Rattle.replay.specs.Calls.{mayBegin, stepRefusal, StepInto}
@@ -77,7 +77,7 @@ module _ (p : Pool) (t : Tally) (page kind : ℕ) where
       go zero e ne h = absurd (ne refl)
       go (suc n) e ne h = record { answers = rw (← e, h); list-holds = rw (← e) }
 
-  pub step-done : (list list′ : List ℕ) (r : ℕ) (q : Pool) (e : Played) (tab access write : List ℕ) (left : Pool) (u : Tally) → r ≡ stepRefusal p t kind (length list) → r ≡ 0
+  pub step-done : (list list′ : List ℕ) (r : ℕ) (q : Pool) (e : Worked) (tab access write : List ℕ) (left : Pool) (u : Tally) → r ≡ stepRefusal p t kind (length list) → r ≡ 0
       → q ≡ p → Leaves (recordOf q page kind) 0 e tab access write list list′ → left ≡ poolIn (e .head) tab access write → u ≡ countedBy t (e .row)
       → StepInto p t page kind list (record { refusal = 0; row = e .row; pool = left; tally = u }) list′
   step-done list list′ r q e tab access write left u o h same x d y =

@@ -121,10 +121,10 @@ fn run(
     bytes: &[u8],
     summary: Summary,
     rows: &mut [u32],
-    written: &mut [u32],
+    list: &mut [u32],
 ) -> Ended
-    requires { ⌜ Ready pool tally (now bytes) summary × (roomFor pool (traceOf (now bytes)) (length (now rows)) (length (now written)) ≡ true) ⌝ }
-    ensures { λ r. ⌜ RanInto pool tally (now (bytes .entry)) (now (rows .entry)) (now (written .entry)) r (now (rows .exit)) (now (written .exit)) ⌝ }
+    requires { ⌜ Ready pool tally (now bytes) summary × (roomFor pool (traceOf (now bytes)) (length (now rows)) (length (now list)) ≡ true) ⌝ }
+    ensures { λ r. ⌜ RanInto pool tally (now (bytes .entry)) (now (rows .entry)) (now (list .entry)) r (now (rows .exit)) (now (list .exit)) ⌝ }
 {
     let n = summary.count as usize;
     let mut h = table::head_of(pool);
@@ -138,16 +138,7 @@ fn run(
         let record = trace::record_at(bytes, summary, i);
         let page = record.page;
         let kind = record.kind;
-        let e = effect::play(
-            h,
-            &mut table,
-            &mut access,
-            &mut write,
-            page,
-            kind,
-            written,
-            at,
-        );
+        let e = effect::play(h, &mut table, &mut access, &mut write, page, kind, list, at);
         let row = e.row;
         tally::put_row(rows, 4 * i, row);
         t = tally::counted(t, row);
@@ -234,6 +225,7 @@ fn accepted_refusal(p: Pool, bytes: &[u8], summary: Summary, rows: usize, places
     refusal::demanded(same, refusal::OTHER_SETTINGS, enough)
 }
 
+// An accepted trace: 15 and 13, then its records.
 fn replay_accepted(
     pool: Pool,
     tally: Tally,

@@ -14,9 +14,9 @@ use Rattle.search.specs.Search.{oneIf}
 use Rattle.search.proofs.Least.{last-or-below}
 use Rattle.pool.specs.declared.Frame.{Frame}
 use Rattle.pool.specs.declared.Pool.{Pool}
-use Rattle.pool.specs.Pool.{emptyFrame, frameAt, withCount}
+use Rattle.pool.specs.Pool.{emptyFrame, frameAt, withCount, withDirty}
 use Rattle.table.specs.declared.Head.{Head}
-use Rattle.table.specs.Table.{frameIn, framesTo, framesIn, withDirty, headOf, poolIn}
+use Rattle.table.specs.Table.{frameIn, framesTo, framesIn, headOf, poolIn}
 use Rattle.table.proofs.Cells.{place, stores, other-frame, other-field, own-field}
 
 pub frames-long : (t : List ℕ) (n : ℕ) → length (framesTo t n) ≡ n
@@ -140,5 +140,5 @@ module _ (all : List Frame) where
   filled-all l i n m e f = ext-getD emptyFrame l all (n ∙ sym m) (λ j b. f j (omega arith))
 
 -- the head, the table and the logs of a pool are that pool
-pub opened : (p : Pool) (g : Head) (tab : List ℕ) → g ≡ headOf p → framesIn tab ≡ p .frames → poolIn g tab (p .access) (p .write) ≡ p
-opened p g tab e f = rw (e, f)
+pub of-parts : (p : Pool) (g : Head) (tab : List ℕ) → g ≡ headOf p → framesIn tab ≡ p .frames → poolIn g tab (p .access) (p .write) ≡ p
+of-parts p g tab e f = rw (e, f)

@@ -1,6 +1,5 @@
 -- A pool's frames as a table of numbers: eight to a frame, field after field.
 use Prim.Native.Nat.{ℕ, zero, suc, _+_, _%_}
-use mathlib.Core.Bool.{Bool}
 use mathlib.Core.List.{List, [], _∷_, _++_}
 use lib.ListN.{getD}
 use lib.Dec.{eqb}
@@ -29,10 +28,6 @@ framesTo t (suc n) = framesTo t n ++ (frameIn t n ∷ [])
 -- all of them
 abbrev pub framesIn : List ℕ → List Frame
 framesIn t = framesTo t 128
-
--- a frame that is dirty or clean
-abbrev pub withDirty : Frame → Bool → Frame
-withDirty fr dirty = record { used = fr .used; page = fr .page; dirty = dirty; pins = fr .pins; count = fr .count; last = fr .last; accesses = fr .accesses; writes = fr .writes }
 
 -- what a pool holds beside its frames and logs
 abbrev pub headOf : Pool → Head

@@ -7,8 +7,8 @@ ghost use mathlib.Core.Bool.{false};
 ghost use Prim.Native.Nat.{_%_, _<_};
 ghost use lib.ListN.{length, set};
 ghost use Rattle.search.specs.Search.{oneIf};
-ghost use Rattle.pool.specs.Pool.{frameAt, withCount, epochAt};
-ghost use Rattle.table.specs.Table.{withDirty, framesIn, headOf, poolIn};
+ghost use Rattle.pool.specs.Pool.{frameAt, withCount, nowAt, withDirty};
+ghost use Rattle.table.specs.Table.{framesIn, headOf, poolIn};
 
 // What a pool holds beside its frames and logs.
 pub struct Head {
@@ -18,6 +18,7 @@ pub struct Head {
     pub sampler: u32,
 }
 
+// That of a pool.
 pub fn head_of(p: Pool) -> Head
     ensures { λ r. ⌜ r ≡ headOf p ⌝ }
 {
@@ -33,17 +34,19 @@ pub fn head_of(p: Pool) -> Head
 // Now: the epoch of the next reference.
 pub fn now_of(h: Head) -> u32
     requires { ⌜ 0 < h .settings .epoch ⌝ }
-    ensures { λ r. ⌜ r ≡ epochAt (h .settings) (h .k) ⌝ }
+    ensures { λ r. ⌜ r ≡ nowAt (h .settings) (h .k) ⌝ }
 {
     h.k / h.settings.epoch
 }
 
+// Any number as one of a byte, so that every table reads as frames.
 fn byte(n: u32) -> u8
     ensures { λ r. ⌜ r ≡ n % 256 ⌝ }
 {
     (n % 256) as u8
 }
 
+// A flag as a number.
 fn bit(such: bool) -> u32
     ensures { λ r. ⌜ r ≡ oneIf such ⌝ }
 {
@@ -67,7 +70,7 @@ pub fn frame_at(table: &[u32; 1024], i: usize) -> Frame
     }
 }
 
-// Frame i becomes another.
+// Frame i becomes another. What stores is lent a slice, since of a lent array the prover is not told the length.
 pub fn put(table: &mut [u32], i: usize, fr: Frame)
     requires { ⌜ (i < 128) × (length (now table) ≡ 1024) ⌝ }
     ensures { λ _. ⌜ framesIn (now (table .exit)) ≡ set (framesIn (now (table .entry))) i fr ⌝ }
@@ -113,11 +116,12 @@ pub fn table_of(p: Pool) -> [u32; 1024]
 }
 
 // The frames that a table holds.
-pub fn frames_of(table: &[u32; 1024]) -> [Frame; 128]
+fn frames_of(table: &[u32; 1024]) -> [Frame; 128]
     ensures { λ r. ⌜ r ≡ framesIn (now (table .entry)) ⌝ }
 {
-    let none = frame_at(table, 0);
-    let mut frames = [none; 128];
+    // Any frame would do: each is stored anew.
+    let first = frame_at(table, 0);
+    let mut frames = [first; 128];
     let mut i: usize = 0;
     while i < 128 {
         frames[i] = frame_at(table, i);

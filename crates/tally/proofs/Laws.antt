@@ -1,23 +1,18 @@
 -- Laws of the tally: counting rows one by one and all at once, and how far the counts can have risen.
-use mathlib.Core.Path.{_≡_, refl}
+use mathlib.Core.Path.{_≡_}
 use mathlib.Core.Bool.{Bool, true, false, _&&_, and-eq-true-iff}
 use mathlib.Core.List.{List, [], _∷_, _++_}
 use Prim.Native.Nat.{ℕ, _+_, _≤_}
 use native.Mathlib.Nat.{add-zero}
 use native.Mathlib.Omega.{arith}
 use lib.Dec.{leb}
-use lib.ListN.{length}
 use borrow.Author.Tests.{leb-true}
 use Rattle.search.specs.Search.{oneIf}
-use Rattle.tally.specs.Rows.{rowNumbers, isHit, isMiss, isEviction, isBatch, isRefused}
+use Rattle.tally.specs.Rows.{isHit, isMiss, isEviction, isBatch, isRefused}
 use Rattle.tally.specs.Tally.{tallyLimit, tallyWithin, countedBy, howMany, pagesIn, countedRows}
 use Rattle.tally.specs.ForCode.{Within, Countable}
 use Rattle.tally.specs.declared.Row.{Row}
 use Rattle.tally.specs.declared.Tally.{Tally}
-
--- a row is four numbers
-pub row-length : (w : Row) → length (rowNumbers w) ≡ 4
-row-length w = refl
 
 -- ---- the rows of a list
 

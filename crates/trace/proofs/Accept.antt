@@ -11,7 +11,7 @@ use Rattle.word.specs.declared.Order.{Order}
 use Rattle.refusal.specs.Refusals.{demand, badField, outOfRange, tooShort, wrongWrites}
 use Rattle.refusal.proofs.Laws.{met, neither}
 use Rattle.settings.specs.Settings.{inRange}
-use Rattle.trace.specs.Layout.{headerLength, fileLength, markOf, firstZeroAt, lastZeroAt, writesAt, countAt, settingsAt, pageAt, kindAt, kindsAt, zerosAt, knownKinds, allZero, writesIn, traceAt, recordIn}
+use Rattle.trace.specs.Layout.{headerLength, fileLength, markOf, firstZeroAt, lastZeroAt, writesAt, countAt, settingsAt, pageAt, kindAt, kindsAt, zerosAt, knownKinds, allZero, writesIn, traceAt, recordIn, recordLimit}
 use Rattle.trace.specs.Check.{zerosRight, layoutRefusal, contentRefusal, refusalIn, refusalMarked, refusalOf, traceOf, decode, summaryOf, checkOf, numberOfAnswer}
 use Rattle.trace.specs.declared.Mark.{Mark}
 use Rattle.trace.specs.declared.Mark.the-variants.{Known, Unknown}
@@ -129,6 +129,11 @@ writes-are s h e =
 pub header-within : (s : List ℕ) (h : Summary) → checkOf s ≡ Accepted h → headerLength ≤ length s
 header-within s h e = let long = accepted-passed s h e .0 .laid .long in omega arith
 
+-- it has at most 8,000 records
+pub accepted-few : (s : List ℕ) (h : Summary) → checkOf s ≡ Accepted h → h .count ≤ recordLimit
+accepted-few s h e = let a = accepted-passed s h e in let f = a .0 .laid .few in let n = a .1 in omega arith
+
+-- and as many pages and kinds
 pub counts-are : (s : List ℕ) (h : Summary) → checkOf s ≡ Accepted h → (length (traceOf s .pages) ≡ h .count) × (length (traceOf s .kinds) ≡ h .count)
 unfolding traceAt
 counts-are s h e =

@@ -1,15 +1,17 @@
 -- What the functions of the code say of themselves. Who reads the rules passes this over.
-use Prim.Native.Nat.{ℕ, _*_, _≤_, _<_}
+use Prim.Native.Nat.{ℕ, _≤_, _<_}
 use mathlib.Core.Bool.{Bool, _&&_}
+use lib.Dec.{eqb, ltb}
 use mathlib.Core.List.{List}
 use Rattle.search.specs.declared.Found.{Found}
 use Rattle.pool.specs.declared.Frame.{Frame}
-use Rattle.pool.specs.Pool.{frameAt, accessRoom, writeRoom}
+use Rattle.pool.specs.Pool.{frameAt}
 use Rattle.table.specs.Table.{framesIn}
 use Rattle.victim.specs.declared.Chosen.{Chosen}
 use Rattle.search.specs.Search.{leastBelow}
 use Rattle.worth.specs.declared.Fraction.{Fraction}
-use Rattle.worth.specs.Value.{lessFraction, worthOf, valueOf}
+use Rattle.worth.specs.Value.{lessFraction}
+use Rattle.victim.specs.Watt.{valueIn}
 use Rattle.victim.specs.Choice.{Choice, unpinned}
 
 -- what the code answers, with the frames that the table holds
@@ -20,8 +22,7 @@ choiceIn r t = record { found = r .found; hand = r .hand; sampler = r .sampler; 
 module _ (frames : List Frame) where
   -- frame i's value
   abbrev pub valueFrom : List ℕ → List ℕ → ℕ → ℕ → ℕ → Fraction
-  valueFrom access write weight epoch i =
-      valueOf (worthOf access (i * accessRoom) (frameAt frames i .accesses) epoch) (worthOf write (i * writeRoom) (frameAt frames i .writes) epoch) weight
+  valueFrom access write weight epoch i = valueIn (frameAt frames i) access write i weight epoch
 
   -- the frame below f of least value, of those that count
   abbrev pub leastFrom : (ℕ → Fraction) → (ℕ → Bool) → ℕ → Found
@@ -33,3 +34,15 @@ module _ (frames : List Frame) where
     pub weighs : weight ≤ 16
     pub young : epoch ≤ 50000
     pub logs : (i : ℕ) → i < 128 → (frameAt frames i .accesses ≤ 8) × (frameAt frames i .writes ≤ 4)
+
+-- above every last step
+abbrev pub neverStep : ℕ
+neverStep = 4294967295
+
+-- a frame is unpinned and its last step below a number
+abbrev pub olderThan : Frame → ℕ → Bool
+olderThan fr low = eqb (fr .pins) 0 && ltb (fr .last) low
+
+-- the last steps of the frames below f are below that
+abbrev pub LastsBelow : List Frame → ℕ → Type 0
+LastsBelow fs f = (i : ℕ) → i < f → frameAt fs i .last < neverStep

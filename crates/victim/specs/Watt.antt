@@ -7,6 +7,7 @@ use Rattle.search.specs.declared.Found.the-variants.{At}
 use Rattle.search.specs.Search.{onFound, leastBelow, among}
 use Rattle.worth.specs.declared.Fraction.{Fraction}
 use Rattle.worth.specs.Value.{lessFraction, worthOf, valueOf}
+use Rattle.pool.specs.declared.Frame.{Frame}
 use Rattle.pool.specs.declared.Pool.{Pool}
 use Rattle.pool.specs.Pool.{accessRoom, writeRoom, frameAt, nowOf}
 use Rattle.victim.specs.Choice.{Choice, unpinned}
@@ -29,6 +30,10 @@ unfoldable pub draws : ℕ → ℕ → ℕ → List ℕ
 draws s f zero = []
 draws s f (suc n) = draws s f n ++ (samplerAfter s (suc n) % f ∷ [])
 
+-- the value of a frame by its number and its logs in the flat arrays, at now
+abbrev pub valueIn : Frame → List ℕ → List ℕ → ℕ → ℕ → ℕ → Fraction
+valueIn fr access write i weight epoch = valueOf (worthOf access (i * accessRoom) (fr .accesses) epoch) (worthOf write (i * writeRoom) (fr .writes) epoch) weight
+
 module _ (p : Pool) where
   -- "one draw per unit of sample size": whether a frame is among those drawn
   abbrev pub drawnFrame : ℕ → Bool
@@ -36,10 +41,7 @@ module _ (p : Pool) where
 
   -- frame i's value at now: of its access log and its write log
   unfoldable pub valueAt : ℕ → Fraction
-  valueAt i =
-      valueOf (worthOf (p .access) (i * accessRoom) (frameAt (p .frames) i .accesses) (nowOf p))
-      (worthOf (p .write) (i * writeRoom) (frameAt (p .frames) i .writes) (nowOf p))
-      (p .settings .weight)
+  valueAt i = valueIn (frameAt (p .frames) i) (p .access) (p .write) i (p .settings .weight) (nowOf p)
 
   -- by value, exactly
   abbrev pub lessValue : ℕ → ℕ → Bool

@@ -38,7 +38,7 @@ fn next_hand(h: usize, f: usize) -> usize
     if h + 1 < f { h + 1 } else { 0 }
 }
 
-// The sweep: from the hand on until it rests, and then one past. With no unpinned frame it would not end.
+// The sweep: from the hand on until it rests, and then one past. With no unpinned frame it would not end. The logs are here for the contract.
 fn sweep<'a>(
     h: Head,
     table: &mut [u32; 1024],

@@ -6,38 +6,34 @@ use table::Head;
 ghost use mathlib.Core.Path.{_≡_};
 ghost use mathlib.Core.Bool.{true};
 ghost use Prim.Native.Nat.{_≤_};
-ghost use lib.Dec.{ltb};
-ghost use Rattle.search.specs.Search.{onFound};
 ghost use Rattle.pool.specs.Sound.{soundPool};
 ghost use Rattle.table.specs.Table.{framesIn, poolIn};
-ghost use Rattle.victim.specs.ForCode.{choiceIn};
+ghost use Rattle.victim.specs.ForCode.{choiceIn, olderThan, LastsBelow};
 ghost use Rattle.victim.specs.Lru.{lruVictim, lruChoice};
 
-// Whether a frame takes the place of the best so far, whose last step is low: on a tie it does not.
-fn older(fr: Frame, best: Found, low: u32) -> bool
-    ensures { λ r. ⌜ r ≡ onFound best (λ _. ltb (fr .last) low) true ⌝ }
+// Above every last step.
+const NEVER: u32 = 4294967295;
+
+// Whether a frame is unpinned and its last step below `low`.
+fn older(fr: Frame, low: u32) -> bool
+    ensures { λ r. ⌜ r ≡ olderThan fr low ⌝ }
 {
-    match best {
-        Found::Nothing => true,
-        Found::At(_) => fr.last < low,
-    }
+    (fr.pins == 0) & (fr.last < low)
 }
 
 // The unpinned frame below f with the least last step, the lowest on a tie.
 fn victim(table: &[u32; 1024], f: usize) -> Found
-    requires { ⌜ f ≤ 128 ⌝ }
+    requires { ⌜ (f ≤ 128) × LastsBelow (framesIn (now table)) f ⌝ }
     ensures { λ r. ⌜ r ≡ lruVictim (framesIn (now (table .entry))) f ⌝ }
 {
     let mut best = Found::Nothing;
-    let mut low: u32 = 0;
+    let mut low = NEVER;
     let mut i: usize = 0;
     while i < f {
         let fr = table::frame_at(table, i);
-        if fr.pins == 0 {
-            if older(fr, best, low) {
-                best = Found::At(i);
-                low = fr.last;
-            }
+        if older(fr, low) {
+            best = Found::At(i);
+            low = fr.last;
         }
         i += 1;
     }

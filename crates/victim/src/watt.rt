@@ -9,12 +9,12 @@ ghost use mathlib.Core.Bool.{true, false};
 ghost use Prim.Native.Nat.{ℕ, _*_, _%_, _<_, _≤_};
 ghost use lib.ListN.{getD};
 ghost use Rattle.search.specs.Search.{onFound, among};
-ghost use Rattle.worth.specs.Value.{lessFraction, worthOf, valueOf};
+ghost use Rattle.worth.specs.Value.{lessFraction};
 ghost use Rattle.worth.specs.Sizes.{Small};
 ghost use Rattle.table.specs.Table.{framesIn, poolIn};
 ghost use Rattle.victim.specs.ForCode.{choiceIn, valueFrom, leastFrom, Valuable};
 ghost use Rattle.pool.specs.Sound.{soundPool};
-ghost use Rattle.victim.specs.Watt.{nextSampler, samplerAfter, draws, drawnFrame, wattVictim, wattChoice};
+ghost use Rattle.victim.specs.Watt.{valueIn, nextSampler, samplerAfter, draws, drawnFrame, wattVictim, wattChoice};
 
 // The sampler number after some draws, and which frames they named.
 struct Draws {
@@ -68,7 +68,7 @@ pub fn value_of<'a>(
     epoch: u32,
 ) -> Fraction
     requires { ⌜ (i < 128) × (fr .accesses ≤ 8) × (fr .writes ≤ 4) × (weight ≤ 16) × (epoch ≤ 50000) ⌝ }
-    ensures { λ r. ⌜ r ≡ valueOf (worthOf (now (access .entry)) (i * 8) (fr .accesses) epoch) (worthOf (now (write .entry)) (i * 4) (fr .writes) epoch) weight ⌝ }
+    ensures { λ r. ⌜ r ≡ valueIn fr (now (access .entry)) (now (write .entry)) i weight epoch ⌝ }
 {
     let accessed = worth::log_worth(access, i * 8, fr.accesses as usize, epoch);
     let written = worth::log_worth(write, i * 4, fr.writes as usize, epoch);

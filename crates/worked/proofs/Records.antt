@@ -5,7 +5,7 @@ use Rattle.word.specs.declared.Order.the-variants.{High}
 use Rattle.settings.specs.declared.Settings.{Settings}
 use Rattle.trace.specs.declared.Record.{Record}
 use Rattle.trace.specs.Layout.{Trace, traceFrom}
-use Rattle.pool.specs.Pool.{emptyPool}
+use Rattle.pool.specs.Pool.{freshPool}
 use Rattle.tally.specs.declared.Row.{Row}
 use Rattle.tally.specs.Tally.{zeroTally}
 use Rattle.replay.specs.Replay.{Played, replayOf}
@@ -40,7 +40,7 @@ traced s records = traceFrom s High (map (λ (r : Record). r .page) records) (ma
 
 -- its replay from a fresh pool
 abbrev pub replayed : Settings → List Record → Played
-replayed s records = replayOf (emptyPool s) zeroTally (traced s records)
+replayed s records = replayOf (freshPool s) zeroTally (traced s records)
 
 -- the rows of a replay, the pages written, and the hand at the end
 abbrev pub shown : Played → (List Row) × (List ℕ) × ℕ

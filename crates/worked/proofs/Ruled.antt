@@ -13,7 +13,7 @@ use Rattle.trace.specs.Layout.{Trace, settingsAt, traceAt}
 use Rattle.trace.specs.Encode.{headerBytes, recordBytes, encode}
 use Rattle.trace.specs.Check.{layoutRefusal, contentRefusal, refusalIn, refusalOf, traceOf}
 use Rattle.pool.specs.declared.Pool.{Pool}
-use Rattle.pool.specs.Pool.{emptyPool, lastEpochOf}
+use Rattle.pool.specs.Pool.{freshPool, lastEpochOf}
 use Rattle.pool.specs.Sound.{soundLog, soundPool}
 use Rattle.tally.specs.declared.Row.{Row}
 use Rattle.tally.specs.Rows.{row, hit}
@@ -28,7 +28,7 @@ use Rattle.worked.proofs.Settled.{rowIn, returns-refusal, ran, each-row
 
 -- a fresh pool of LRU, f 2, batch 1
 abbrev pub fresh : Pool
-fresh = emptyPool (lru 2 1)
+fresh = freshPool (lru 2 1)
 
 -- the bytes of the printed example
 abbrev pub bytes : List ℕ
@@ -43,15 +43,15 @@ unfolding refusalOf refusalIn layoutRefusal contentRefusal settingsAt inRange en
 bytes-accepted = refl
 
 fresh-begins : mayBegin fresh zeroTally ≡ true
-unfolding mayBegin soundPool soundLog everyBelow inRange lastEpochOf emptyPool tallyWithin
+unfolding mayBegin soundPool soundLog everyBelow inRange lastEpochOf freshPool tallyWithin
 fresh-begins = refl
 
 fresh-same : sameSettings (traced (lru 2 1) printed .settings) (fresh .settings) ≡ true
-unfolding sameSettings emptyPool
+unfolding sameSettings freshPool
 fresh-same = refl
 
 fresh-clean : dirtyIn (fresh .frames) ≡ 0
-unfolding dirtyIn countBelow emptyPool
+unfolding dirtyIn countBelow freshPool
 fresh-clean = refl
 
 none-refused : (i : ℕ) → i < 5 → getD printedRows i (row 0 0 0 0) .outcome < 100
@@ -114,7 +114,7 @@ module _ (rows written : List ℕ) (rows-room : 20 ≤ length rows) (written-roo
 
     -- or the pool: its k is 5
     pub leaves-pool : r .pool ≡ fresh → ⊥
-    unfolding emptyPool
+    unfolding freshPool
     leaves-pool e = let k = ap (λ (p : Pool). p .k) e in let five = ap (λ (e : Ended). e .pool .k) ended ∙ printed-k in omega arith
 
     -- one that works the first record and repeats its row

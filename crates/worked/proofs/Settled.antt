@@ -1,5 +1,5 @@
 -- What the contracts of step, replay and replay to counts settle, over any pool, tally and bytes.
-use mathlib.Core.Path.{_≡_, refl, ap, sym, subst, _∙_}
+use mathlib.Core.Path.{_≡_, refl, ap, sym, _∙_}
 use mathlib.Core.Bool.{true, and-eq-true-iff}
 use mathlib.Core.List.{List, [], _∷_, _++_}
 use Prim.Native.Nat.{ℕ, zero, suc, _+_, _*_, _≤_, _<_}
@@ -22,8 +22,8 @@ use Rattle.pool.proofs.Sound.{told, made}
 use Rattle.pool.proofs.Sizes.{Sized}
 use Rattle.tally.specs.declared.Row.{Row}
 use Rattle.tally.specs.declared.Tally.{Tally}
-use Rattle.tally.specs.Rows.{row, isHit, isMiss, isEviction, isBatch, isRefused}
-use Rattle.tally.specs.Tally.{tallyLimit, howMany, pagesIn, countedRows}
+use Rattle.tally.specs.Rows.{row}
+use Rattle.tally.specs.Tally.{tallyLimit, countedRows}
 use Rattle.effect.specs.Record.{recordOf, dirtyIn}
 use Rattle.replay.specs.declared.Stepped.{Stepped}
 use Rattle.replay.specs.declared.Ended.{Ended}
@@ -60,15 +60,6 @@ rows-in [] rest i w l = absurd (omega arith)
 rows-in (v ∷ ws) rest zero w l = refl
 rows-in (v ∷ ws) rest (suc i) w l = rows-in ws rest i w (omega arith)
 
--- each count is the start's plus the number of such rows, the pages written those of all rows
-pub record Counts (t : Tally) (ws : List Row) (u : Tally) : Type 0 where
-  pub hits : u .hits ≡ t .hits + howMany isHit ws
-  pub misses : u .misses ≡ t .misses + howMany isMiss ws
-  pub evictions : u .evictions ≡ t .evictions + howMany isEviction ws
-  pub batches : u .batches ≡ t .batches + howMany isBatch ws
-  pub written : u .written ≡ t .written + pagesIn ws
-  pub refused : u .refused ≡ t .refused + howMany isRefused ws
-
 module _ (p : Pool) (t : Tally) (trace : Trace) where
   -- each record of a replay fills its row by what it does to the pool that those before it left
   pub row-of-record : (n i : ℕ) (w : Row) → i < n → getD (replayTo p t trace n .rows) i w ≡ recordOf (replayTo p t trace i .pool) (recordIn trace i .page) (recordIn trace i .kind) .row
@@ -78,13 +69,6 @@ module _ (p : Pool) (t : Tally) (trace : Trace) where
       ∙ last-or-below i n (omega arith)
       (λ q. getD-at (replayTo p t trace n .rows) (doing p t trace n .row) [] w i (rows-length p t trace n ∙ sym q) ∙ ap (λ (j : ℕ). doing p t trace j .row) (sym q))
       (λ q. List·getD-append (replayTo p t trace n .rows) (doing p t trace n .row ∷ []) w i (let e = rows-length p t trace n in omega arith) ∙ row-of-record n i w q)
-
-  -- a replay's tally is the start's, raised by its rows
-  pub each-count : Counts t (replayOf p t trace .rows) (replayOf p t trace .tally)
-  unfolding countedRows
-  each-count =
-      subst (Counts t (replayOf p t trace .rows)) (sym (replay-tally p t trace (length (trace .pages))))
-      (record { hits = refl; misses = refl; evictions = refl; batches = refl; written = refl; refused = refl })
 
 -- a trace has as many kinds as pages
 same-long : (s : List ℕ) → length (traceOf s .pages) ≡ length (traceOf s .kinds)
@@ -158,8 +142,8 @@ module _ (p : Pool) (t : Tally) (s rows written : List ℕ) (r : Ended) (rows′
     counts-agree e y = y ∙ ap (λ (n : ℕ). endedOf n p t played) (met-all .0) ∙ sym (ran .answers)
 
     -- the tally handed back is the start's raised by the replay's rows
-    pub tally-counts : Counts t (played .rows) (r .tally)
-    tally-counts = subst (Counts t (played .rows)) (sym (ap (λ (e : Ended). e .tally) (ran .answers))) (each-count p t (traceOf s))
+    pub tally-counts : r .tally ≡ countedRows t (played .rows)
+    tally-counts = ap (λ (e : Ended). e .tally) (ran .answers) ∙ replay-tally p t (traceOf s) (length (traceOf s .pages))
 
     module _ (z : Sized p) where
       gone : Going p (traceOf s) tallyLimit (length (traceOf s .pages)) played
@@ -167,7 +151,8 @@ module _ (p : Pool) (t : Tally) (s rows written : List ℕ) (r : Ended) (rows′
 
       -- the count of pages written is raised by the number of written pages
       pub pages-counted : r .tally .written ≡ t .written + length (played .written)
-      pages-counted = tally-counts .written ∙ ap (λ (n : ℕ). t .written + n) (gone .pages)
+      unfolding countedRows
+      pages-counted = ap (λ (u : Tally). u .written) tally-counts ∙ ap (λ (n : ℕ). t .written + n) (gone .pages)
 
       -- pages written go, in order, to the second lent list
       pub each-page : take (length (played .written)) written′ ≡ played .written

@@ -1,4 +1,4 @@
--- What the `requires` ask: fractions whose products fit 64 bits.
+-- What the code asks of fractions, so that their products fit 64 bits.
 use Prim.Native.Nat.{_≤_}
 use Rattle.worth.specs.declared.Fraction.{Fraction}
 

@@ -7,9 +7,8 @@ use Rattle.pool.proofs.Sound.{told}
 use Rattle.pool.proofs.Sizes.{Sized}
 use Rattle.table.specs.Table.{poolIn}
 use Rattle.reference.proofs.Free.{free-is, used-lowest, distinct-pages}
-use Rattle.effect.specs.ForCode.{settledOf}
+use Rattle.effect.proofs.Settled.{settledOf, found-framed, free-framed, settled-is}
 use Rattle.effect.specs.Record.{pinsAt}
-use Rattle.effect.proofs.Settled.{found-framed, free-framed, settled-is}
 use Rattle.effect.proofs.Works.{enterable, sized-in, played-settled, played-roomed, full-room}
 use borrow.Author.Needs.{needs}
 use Rattle.effect.proofs.play.Statement.{statement}

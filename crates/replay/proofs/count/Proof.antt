@@ -4,13 +4,13 @@ use native.Mathlib.Omega.{arith}
 use lib.ListN.{length}
 use denote.Ref.{now}
 use Rattle.trace.specs.Check.{traceOf}
-use Rattle.trace.proofs.Accept.{counts-are}
+use Rattle.trace.proofs.Accept.{accepted-few, counts-are}
 use Rattle.pool.specs.declared.Pool.{Pool}
 use Rattle.pool.proofs.Sizes.{Sized, sized}
 use Rattle.table.specs.Table.{poolIn}
 use Rattle.replay.specs.ForCode.{Ready}
 use Rattle.replay.proofs.Running.{Counting, counting-none, counting-more}
-use Rattle.replay.proofs.Counting.{accepted-few, count-plays, countable, played, begun, begun-sized, counted-all}
+use Rattle.replay.proofs.Counting.{count-plays, countable, played, begun, begun-sized, counted-all}
 use borrow.Author.Needs.{needs}
 use Rattle.replay.proofs.count.Statement.{statement}
 use Rattle.replay.proofs.count.Tie as tie

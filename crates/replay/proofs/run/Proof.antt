@@ -5,7 +5,7 @@ use native.Mathlib.Omega.{arith}
 use lib.ListN.{length}
 use denote.Ref.{now}
 use Rattle.trace.specs.Check.{traceOf}
-use Rattle.trace.proofs.Accept.{counts-are}
+use Rattle.trace.proofs.Accept.{accepted-few, counts-are}
 use Rattle.pool.specs.declared.Pool.{Pool}
 use Rattle.pool.proofs.Sizes.{Sized, sized}
 use Rattle.table.specs.Table.{poolIn}
@@ -15,7 +15,7 @@ use Rattle.effect.specs.Record.{recordOf}
 use Rattle.replay.specs.Calls.{roomFor}
 use Rattle.replay.specs.ForCode.{Ready}
 use Rattle.replay.proofs.Running.{stored-length, Counting, Listing, counting-none, listing-none, counting-more, listing-more}
-use Rattle.replay.proofs.Counting.{count-plays, countable, played, row-batch, run-room, run-few, row-room, accepted-few, begun, begun-sized, room-first, counted-all, listed-all}
+use Rattle.replay.proofs.Counting.{count-plays, countable, played, row-batch, run-room, run-few, row-room, begun, begun-sized, room-first, counted-all, listed-all}
 use borrow.Author.Needs.{needs}
 use Rattle.replay.proofs.run.Statement.{statement}
 use Rattle.replay.proofs.run.Tie as tie
@@ -40,8 +40,8 @@ module _ (w : tie.After-table-of Inv-loop μ-loop) where
   sizes : Sized first
   sizes = let a = w .before .before .before .before .before .before in begun-sized (a .args .pool) _ _ (w .before .head-of .ensures) (w .table-of .ensures) (sized (a .args .pool) _ (a .good .0))
 
-  room : let a = w .before .before .before .before .before .before in roomFor first (traceOf (now (a .args .bytes))) (length (now (a .args .rows))) (length (now (a .args .written))) ≡ true
-  room = let a = w .before .before .before .before .before .before in room-first (a .args .pool) _ _ (w .before .head-of .ensures) (w .table-of .ensures) (a .args .tally) (traceOf (now (a .args .bytes))) (length (now (a .args .rows))) (length (now (a .args .written))) (a .pre .1)
+  room : let a = w .before .before .before .before .before .before in roomFor first (traceOf (now (a .args .bytes))) (length (now (a .args .rows))) (length (now (a .args .list))) ≡ true
+  room = let a = w .before .before .before .before .before .before in room-first (a .args .pool) _ _ (w .before .head-of .ensures) (w .table-of .ensures) (a .args .tally) (traceOf (now (a .args .bytes))) (length (now (a .args .rows))) (length (now (a .args .list))) (a .pre .1)
 
 play-requires : tie.Need-play-requires Inv-loop μ-loop
 play-requires c κs =
@@ -57,7 +57,7 @@ play-requires c κs =
       write = few .write;
       room = rw (g .2)
           (run-room (first w) (a .tally) (now (a .bytes)) (a .summary) (sizes w) (ready w) _ _ _ (r .before .loop-test .taken) (g .3) _ (r .record-at .ensures)
-          (length (now (a .rows))) (length (now (a .written))) (room w) _ _ _ _ _ (g .4));
+          (length (now (a .rows))) (length (now (a .list))) (room w) _ _ _ _ _ (g .4));
     }
 
 few-records : (r : tie.After-record-at Inv-loop μ-loop) → r .before .before .loop .i ≤ 8000
@@ -78,7 +78,7 @@ put-row-requires c κs =
     let g = l .loop .inv in
     rw (g .1)
     (row-room (first w) (a .tally) (now (a .bytes)) (a .summary) (sizes w) (ready w) _ _ _ (r .before .loop-test .taken) (g .3) _ (r .record-at .ensures)
-    (length (now (a .rows))) (length (now (a .written))) (room w) _ _ _ _ _ (g .4))
+    (length (now (a .rows))) (length (now (a .list))) (room w) _ _ _ _ _ (g .4))
 
 counted-requires : tie.Need-counted-requires Inv-loop μ-loop
 counted-requires c κs =
@@ -98,7 +98,7 @@ add-at c =
     let a = w .before .before .before .before .before .before .args in
     let g = l .loop .inv in
     let few = run-few (first w) (a .tally) (now (a .bytes)) (a .summary) (sizes w) (ready w) _ _ _ (r .before .loop-test .taken) (g .3) _ (r .record-at .ensures)
-    (length (now (a .rows))) (length (now (a .written))) (room w) _ _ _ _ _ (g .4) in
+    (length (now (a .rows))) (length (now (a .list))) (room w) _ _ _ _ _ (g .4) in
     let batch = row-batch (first w) (a .tally) (now (a .bytes)) (a .summary) (sizes w) (ready w) _ _ _ (r .before .loop-test .taken) (g .3) _ (r .record-at .ensures) _ (e .play .ensures .effect) in
     omega arith
 
@@ -119,7 +119,7 @@ loop-again c =
     let batch = row-batch (first w) (a .tally) (now (a .bytes)) (a .summary) (sizes w) (ready w) _ _ _ (r .before .loop-test .taken) (g .3) _ (r .record-at .ensures) _ (e .play .ensures .effect) in (
       search needs,
       stored-length (l .loop .rows) _ (rowNumbers (e .play .result .row)) (4 * l .loop .i) _ (o .before .put-row .ensures) (g .1),
-      stored-length (l .loop .written) _ (recordOf (poolIn (l .loop .h) (l .loop .table) (l .loop .access) (l .loop .write)) (r .record-at .result .page) (r .record-at .result .kind) .written) (l .loop .at) _ (e .play .ensures .list) (g .2),
+      stored-length (l .loop .list) _ (recordOf (poolIn (l .loop .h) (l .loop .table) (l .loop .access) (l .loop .write)) (r .record-at .result .page) (r .record-at .result .kind) .written) (l .loop .at) _ (e .play .ensures .list) (g .2),
       counting-more _ _ _ _ _ _ _ _ _ (g .3) same (e .play .ensures .effect) (n .counted .ensures),
       listing-more _ _ _ _ _ _ _ _ _ _ (g .4) same _ _ _ _ (ap (λ (x : Effect). x .row) (e .play .ensures .effect)) batch (o .before .put-row .ensures) (e .play .ensures .list),
     )

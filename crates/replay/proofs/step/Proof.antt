@@ -7,7 +7,7 @@ use Rattle.pool.proofs.Sizes.{sized}
 use Rattle.table.specs.Table.{poolIn}
 use Rattle.effect.specs.Record.{recordOf}
 use Rattle.effect.specs.ForCode.{Plays}
-use Rattle.table.proofs.Held.{opened}
+use Rattle.table.proofs.Held.{of-parts}
 use Rattle.replay.proofs.Stepping.{step-few, step-plays, step-countable, step-refused, step-done}
 use borrow.Author.Needs.{needs}
 use Rattle.replay.proofs.step.Statement.{statement}
@@ -28,7 +28,7 @@ returns c =
 
 -- the pool as its parts
 same : (w : tie.After-table-of) → let p = w .before .before .before .before .before .args .pool in poolIn (w .before .head-of .result) (w .table-of .result) (p .access) (p .write) ≡ p
-same w = opened (w .before .before .before .before .before .args .pool) _ _ (w .before .head-of .ensures) (w .table-of .ensures)
+same w = of-parts (w .before .before .before .before .before .args .pool) _ _ (w .before .head-of .ensures) (w .table-of .ensures)
 
 record-requires : tie.Need-play-requires
 record-requires c κs =

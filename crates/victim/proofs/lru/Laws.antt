@@ -1,19 +1,22 @@
 -- What LRU owes.
 use mathlib.Core.Path.{_≡_, refl, ap}
-use mathlib.Core.Bool.{Bool, true}
+use mathlib.Core.Bool.{Bool, true, false}
 use mathlib.Core.List.{List, map}
 use Prim.Native.Nat.{ℕ, _≤_, _<_}
+use native.Mathlib.Omega.{arith}
 use lib.ListN.{length}
 use lib.Dec.{eqb}
 use borrow.Author.Tests.{ltb-false}
 use Rattle.search.specs.declared.Found.the-variants.{At, Nothing}
 use Rattle.search.proofs.Least.{least-sound, least-none, least-none-of, least-cong, least-least, by-key}
+use Rattle.settings.proofs.Laws.{ranges}
 use Rattle.pool.specs.declared.Frame.{Frame}
 use Rattle.pool.specs.declared.Pool.{Pool}
 use Rattle.pool.specs.Pool.{frameAt}
 use Rattle.pool.proofs.Sound.{Sound}
 use Rattle.pool.proofs.Quiet.{Quiet, sound-quiet}
 use Rattle.victim.specs.Choice.{unpinned, unmoved, leftBy}
+use Rattle.victim.specs.ForCode.{neverStep, LastsBelow}
 use Rattle.victim.specs.Lru.{older, lruVictim, lruChoice}
 use Rattle.victim.proofs.Owed.{AllPinned, repaged, repagedPool, repagedChoice, EmptyStays, frame-repaged, Lowered, lowered-same, quiet-of, Owes}
 
@@ -73,3 +76,11 @@ unfolding lruChoice lruVictim
 lru-least p v j h l t =
     ltb-false (frameAt (p .frames) j .last) (frameAt (p .frames) v .last)
     (least-least (unpinned (p .frames)) (older (p .frames)) (by-key (λ i. frameAt (p .frames) i .last)) (p .settings .frames) v j h l t)
+
+-- no last step of a sound pool is as high as the code's first bound
+last-below : (p : Pool) (i : ℕ) (b : Bool) → Sound p → i < 128 → frameAt (p .frames) i .used ≡ b → frameAt (p .frames) i .last < neverStep
+last-below p i true s l e = let h = s .frame i l .below e in let k = s .few in omega arith
+last-below p i false s l e = let z = ap (λ (fr : Frame). fr .last) (s .frame i l .zero e) in omega arith
+
+pub lasts-below : (p : Pool) → Sound p → (p .settings .frames ≤ 128) × LastsBelow (p .frames) (p .settings .frames)
+lasts-below p s = let few = ranges (p .settings) (s .settings) .frames .1 in (few, λ i l. last-below p i (frameAt (p .frames) i .used) s (omega arith) refl)

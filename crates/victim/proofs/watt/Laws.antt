@@ -134,11 +134,6 @@ module _ (p : Pool) where
       by-draw k (inl d) = least-by (drawnFrame p) v j k l d u
       by-draw k (inr g) = let s = found-by (drawnFrame p) v k in absurd (not-both (unpinned (p .frames) v) (s .2) (g v (s .0) (s .1)))
 
-  -- it leaves the frames as they are
-  pub watt-keeps : wattChoice p .frames ≡ p .frames
-  unfolding wattChoice
-  watt-keeps = refl
-
   -- it changes nothing but the sampler number
   pub watt-quiet : Sound p → Quiet p (leftBy p (wattChoice p))
   unfolding wattChoice

@@ -1,16 +1,16 @@
 use mathlib.Core.Path.{ap}
 use denote.Ref.{now}
-use Rattle.settings.proofs.Laws.{ranges}
 use Rattle.pool.proofs.Sound.{told}
 use Rattle.table.specs.Table.{poolIn}
 use Rattle.victim.specs.Choice.{unmoved}
 use Rattle.victim.specs.Lru.{lruChoice}
+use Rattle.victim.proofs.lru.Laws.{lasts-below}
 use borrow.Author.Needs.{needs}
 use Rattle.victim.proofs.lru.choose.Statement.{statement}
 use Rattle.victim.proofs.lru.choose.Tie as tie
 
 victim-requires : tie.Need-victim-requires
-victim-requires c κs = ranges _ (told _ (c .before .pre) .settings) .frames .1
+victim-requires c κs = let a = c .before in lasts-below (poolIn (a .args .h) (now (a .args .table)) (now (a .args .access)) (now (a .args .write))) (told _ (a .pre))
 
 returns : tie.Need-returns
 unfolding lruChoice

@@ -1,11 +1,11 @@
-use Prim.Native.Nat.{_-_, _≤_}
+use Prim.Native.Nat.{_-_, _≤_, _<_}
 use mathlib.Core.Path.{_≡_, sym, _∙_}
 use mathlib.Core.Logic.{⊎-elim}
 use native.Mathlib.Omega.{arith}
-use borrow.Author.Tests.{eq-eqb, ne-eqb}
 use Rattle.table.specs.Table.{framesIn}
+use Rattle.victim.specs.ForCode.{neverStep}
 use Rattle.victim.specs.Lru.{lruVictim}
-use Rattle.victim.proofs.lru.Turns.{Oldest, oldest-none, oldest-skip, oldest-beat, oldest-keep}
+use Rattle.victim.proofs.lru.Turns.{Oldest, oldest-none, oldest-beat, oldest-keep}
 use borrow.Author.Needs.{needs}
 use Rattle.victim.proofs.lru.victim.Statement.{statement}
 use Rattle.victim.proofs.lru.victim.Tie as tie
@@ -21,13 +21,13 @@ loop-holds c = (search needs, oldest-none _)
 
 loop-again : tie.Need-loop-again Inv-loop μ-loop
 loop-again c =
-    let s = c .before .before in
-    let b = s .before .before .loop .inv .1 in
-    let e = s .frame-at .ensures in (
+    let o = c .before in
+    let e = o .before in
+    let l = e .before .before in
+    let small : e .frame-at .result .last < neverStep = rw (e .frame-at .ensures) (l .before .pre .1 _ (e .before .loop-test .taken)) in (
       search needs,
-      ⊎-elim (λ w. rw (w .3, w .4) (oldest-beat _ _ _ _ _ b e (eq-eqb _ _ (w .0 .taken)) (sym (w .1 .ensures) ∙ w .2 .taken)))
-          (⊎-elim (λ w. rw (w .3, w .4) (oldest-keep _ _ _ _ _ b e (sym (w .1 .ensures) ∙ w .2 .left)))
-          (λ w. rw (w .1, w .2) (oldest-skip _ _ _ _ _ b e (ne-eqb _ _ (w .0 .left)))))
+      ⊎-elim (λ w. rw (w .1, w .2) (oldest-beat _ _ _ _ _ (l .loop .inv .1) (e .frame-at .ensures) (sym (o .older .ensures) ∙ w .0 .taken)))
+          (λ w. rw (w .1, w .2) (oldest-keep _ _ _ _ _ (l .loop .inv .1) (e .frame-at .ensures) small (sym (o .older .ensures) ∙ w .0 .left)))
           (c .if1 .came),
     )
 
