@@ -18,7 +18,7 @@ use std::error::Error;
 use std::fmt;
 use std::io::{self, Read, Write};
 use std::process::{Command, ExitCode, Stdio};
-use traces::Random;
+use traces::{Load, Random};
 
 const USAGE: &str = "\
 usage: listing < TRACE
@@ -67,7 +67,11 @@ fn run(arguments: &[&str]) -> Result<(), Box<dyn Error>> {
                 "low" => Order::LowFirst,
                 _ => return Err(USAGE.into()),
             };
-            stdout.write_all(&traces::skewed(rule, order))?;
+            let load = Load {
+                rule,
+                ..Load::USUAL
+            };
+            stdout.write_all(&traces::skewed(&load, order))?;
         }
         ["compare", rows, bench, series, first, count, series_count] => {
             let first: u64 = first.parse()?;

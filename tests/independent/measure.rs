@@ -1,16 +1,19 @@
 //! Times the proved replay to counts beside the independent one, on the same
-//! trace for each rule. Either checks the trace and starts from a fresh pool.
+//! traces, under each rule at what a user meets: small and large pools, few and
+//! many records, reads and writes. Either checks the trace and starts from a
+//! fresh pool.
 
 #[allow(dead_code)]
 mod replay;
 #[allow(dead_code)]
 mod traces;
 
-use replay::{check, Order, Pool, Rule, Tally, MOST_RECORDS};
+use replay::{check, Order, Pool, Rule, Tally};
 use std::hint::black_box;
 use std::time::{Duration, Instant};
+use traces::{skewed, Load};
 
-const RUNS: u32 = 200;
+const RUNS: u32 = 100;
 const ORDER: Order = Order::LowFirst;
 
 type Counts = [u32; 6];
@@ -46,36 +49,82 @@ fn independent(bytes: &[u8]) -> Counts {
     [hits, misses, evictions, batches, written, refused]
 }
 
-fn timed(replay: fn(&[u8]) -> Counts, bytes: &[u8]) -> Duration {
+/// How long so many calls on the same trace take.
+fn timed(replay: fn(&[u8]) -> Counts, bytes: &[u8], calls: u32) -> Duration {
     let start = Instant::now();
-    black_box(replay(black_box(bytes)));
+    for _ in 0..calls {
+        black_box(replay(black_box(bytes)));
+    }
     start.elapsed()
 }
 
-fn main() {
-    println!("{MOST_RECORDS} records, half of them writes, 128 frames, batch 8, sample 8;");
-    println!("nanoseconds a record, least of {RUNS} runs");
-    println!("rule     proved independent  ratio");
-    let rules = [
-        ("lru", Rule::Lru),
-        ("clock", Rule::Clock),
-        ("watt", Rule::Watt),
-    ];
-    for (name, rule) in rules {
-        let bytes = traces::skewed(rule, ORDER);
-        assert_eq!(proved(&bytes), independent(&bytes), "{name}");
-        // By turns, so that a slow moment of the machine meets both.
-        let mut least = [Duration::MAX; 2];
-        for _ in 0..RUNS {
-            for (least, replay) in least.iter_mut().zip([proved, independent]) {
-                *least = timed(replay, &bytes).min(*least);
-            }
+/// Nanoseconds a record, or a call where there is none: of the proved replay,
+/// then of the independent one.
+fn measured(load: &Load) -> [f64; 2] {
+    let bytes = skewed(load, ORDER);
+    assert_eq!(proved(&bytes), independent(&bytes), "{load:?}");
+    // Short traces are called often enough that the clock's own time is nothing.
+    let calls = 2_000 / load.records.clamp(20, 2_000);
+    // By turns, so that a slow moment of the machine meets both.
+    let mut least = [Duration::MAX; 2];
+    for _ in 0..RUNS {
+        for (least, replay) in least.iter_mut().zip([proved, independent]) {
+            *least = timed(replay, &bytes, calls).min(*least);
         }
-        let [proved, independent] =
-            least.map(|time| time.as_nanos() as f64 / f64::from(MOST_RECORDS));
-        println!(
-            "{name:<6} {proved:>8.1} {independent:>11.1} {:>6.2}",
-            proved / independent
-        );
+    }
+    least.map(|time| time.as_nanos() as f64 / f64::from(calls * load.records.max(1)))
+}
+
+fn row(load: Load) {
+    let Load {
+        frames,
+        records,
+        writes,
+        batch,
+        near,
+        ..
+    } = load;
+    let pages = if near { "near" } else { "skewed" };
+    print!("{frames:>6} {records:>7} {writes:>6} {batch:>5} {pages:<6}");
+    for rule in [Rule::Lru, Rule::Clock, Rule::Watt] {
+        let [proved, independent] = measured(&Load { rule, ..load });
+        let ratio = proved / independent;
+        print!(" {proved:>8.1} {independent:>8.1} {ratio:>5.2}");
+    }
+    println!();
+}
+
+fn main() {
+    println!("nanoseconds a record (a call, where there are no records), least of {RUNS} runs:");
+    println!("the proved replay, the independent one, and the ratio; writes in percent");
+    println!(
+        "{:>33}      lru                     clock                   watt",
+        ""
+    );
+    println!("frames records writes batch pages  {}", {
+        "   proved    indep ratio".repeat(3).trim_start_matches(' ')
+    });
+    for frames in [1, 8, 16, 32, 128] {
+        let usual = Load {
+            frames,
+            ..Load::USUAL
+        };
+        row(Load { writes: 0, ..usual });
+        for batch in [1, 8, 16] {
+            row(Load { batch, ..usual });
+        }
+        row(Load {
+            near: true,
+            ..usual
+        });
+    }
+    for frames in [16, 128] {
+        for records in [0, 100, 1_000] {
+            row(Load {
+                frames,
+                records,
+                ..Load::USUAL
+            });
+        }
     }
 }

@@ -685,25 +685,54 @@ fn stored_on_one_pool() -> [Vec<u8>; 5] {
     ]
 }
 
-/// A trace for timing: 8,000 records, half of them writes, over 450 pages of
-/// which the low ones are named far more often.
-pub fn skewed(rule: Rule, order: Order) -> Vec<u8> {
-    let random = &mut Random::new(1);
-    let settings = Settings {
-        rule,
+/// What a trace for timing is like.
+#[derive(Clone, Copy, Debug)]
+pub struct Load {
+    pub rule: Rule,
+    pub frames: u32,
+    pub batch: u32,
+    pub records: u32,
+    /// How many of a hundred records are writes.
+    pub writes: u32,
+    /// Whether nearly all pages have room in the pool together.
+    pub near: bool,
+}
+
+impl Load {
+    pub const USUAL: Load = Load {
+        rule: Rule::Lru,
         frames: 128,
         batch: 8,
+        records: MOST_RECORDS,
+        writes: 50,
+        near: false,
+    };
+}
+
+/// A trace for timing: over 450 pages of which the low ones are named far more
+/// often, or, near, over as many pages as there are frames and now and then
+/// another.
+pub fn skewed(load: &Load, order: Order) -> Vec<u8> {
+    let random = &mut Random::new(1);
+    let settings = Settings {
+        rule: load.rule,
+        frames: load.frames,
+        batch: load.batch,
         cap: 3,
         sample: 8,
         weight: 2,
         epoch: 100,
         seed: 1,
     };
-    let mut writes_left = MOST_RECORDS / 2;
+    let mut writes_left = load.records * load.writes / 100;
     let mut records = Vec::new();
-    for left in (1..=MOST_RECORDS).rev() {
-        let u = f64::from(random.between(0, u32::MAX - 1)) / f64::from(u32::MAX);
-        let page = (450.0 * u * u * u) as u32;
+    for left in (1..=load.records).rev() {
+        let page = if load.near && random.chance(99) {
+            random.between(0, load.frames - 1)
+        } else {
+            let u = f64::from(random.between(0, u32::MAX - 1)) / f64::from(u32::MAX);
+            (450.0 * u * u * u) as u32
+        };
         let write = random.between(1, left) <= writes_left;
         writes_left -= u32::from(write);
         records.push((page, if write { WRITE } else { READ }));
