@@ -1,16 +1,17 @@
 -- All batch pages become clean, and nothing else changes; the pages written are theirs.
 use mathlib.Core.Path.{_≡_, refl, ap, sym, subst, _∙_}
-use mathlib.Core.Bool.{Bool, true, false, _||_}
+use mathlib.Core.Bool.{Bool, true, false, _||_, or-comm}
 use mathlib.Core.List.{List, [], _∷_, _++_}
-use Prim.Native.Nat.{ℕ, suc, _+_, _≤_}
+use Prim.Native.Nat.{ℕ, suc, _+_, _≤_, _<_}
 use native.Mathlib.Omega.{arith}
 use native.Mathlib.Decide.{decLt}
 use native.Mathlib.Nat.{add-zero, add-suc, suc-add}
 use lib.ListN.{length, set, length-set, length-map, List·getD-eq-default}
-use lib.Seq.{sets, getD-set-same, getD-set-other}
+use lib.Seq.{sets, set-comm, ext-getD, getD-set-same, getD-set-other}
 use lib.Dec.{eqb}
 use borrow.Author.Tests.{eqb-true, eqb-false}
 use Rattle.search.specs.Search.{pick, among}
+use Rattle.search.proofs.Among.{among-snoc}
 use Rattle.pool.specs.declared.Frame.{Frame}
 use Rattle.pool.specs.Pool.{emptyFrame, frameAt}
 use Rattle.batch.specs.Batch.{cleanFrame, cleaned, pagesOf}
@@ -64,6 +65,15 @@ unfolding cleaned
 cleaned-snoc fs [] i = refl
 cleaned-snoc fs (x ∷ xs) i = cleaned-snoc (set fs x (cleanFrame (frameAt fs x))) xs i
 
+-- a frame that is cleaned after others might as well come before them
+pub cleaned-first : (fs : List Frame) (xs : List ℕ) (v : ℕ) → cleaned fs (xs ++ (v ∷ [])) ≡ cleaned fs (v ∷ xs)
+unfolding among
+cleaned-first fs xs v =
+    ext-getD emptyFrame (cleaned fs (xs ++ (v ∷ []))) (cleaned fs (v ∷ xs)) (cleaned-length fs (xs ++ (v ∷ [])) ∙ sym (cleaned-length fs (v ∷ xs)))
+    (λ i _. cleaned-at fs (xs ++ (v ∷ [])) i
+    ∙ ap (λ (b : Bool). pick b (cleanFrame (frameAt fs i)) (frameAt fs i)) (among-snoc xs v i ∙ or-comm (among xs i) (eqb v i))
+    ∙ sym (cleaned-at fs (v ∷ xs) i))
+
 pub pages-length : (fs : List Frame) (xs : List ℕ) → length (pagesOf fs xs) ≡ length xs
 unfolding pagesOf
 pages-length fs xs = length-map xs (λ i. frameAt fs i .page)
@@ -73,20 +83,14 @@ unfolding pagesOf
 pages-snoc fs [] i = refl
 pages-snoc fs (x ∷ xs) i = ap (λ (l : List ℕ). frameAt fs x .page ∷ l) (pages-snoc fs xs i)
 
--- cleaning a frame changes no page
-pub pages-cleaned : (fs : List Frame) (v : ℕ) (xs : List ℕ) → pagesOf (set fs v (cleanFrame (frameAt fs v))) xs ≡ pagesOf fs xs
-unfolding pagesOf
-pages-cleaned fs v [] = refl
-pages-cleaned fs v (x ∷ xs) = rw (page-stays x) (ap (λ (l : List ℕ). frameAt fs x .page ∷ l) (pages-cleaned fs v xs))
-  where
-    either : (b : Bool) (i : ℕ) → pick b (cleanFrame (frameAt fs i)) (frameAt fs i) .page ≡ frameAt fs i .page
-    either true i = refl
-    either false i = refl
-
-    page-stays : (i : ℕ) → frameAt (set fs v (cleanFrame (frameAt fs v))) i .page ≡ frameAt fs i .page
-    page-stays i = ap (λ (g : Frame). g .page) (one-cleaned fs v i) ∙ either (eqb v i) i
-
 -- one store more, at the end of what is written
 pub sets-snoc : (l : List ℕ) (i : ℕ) (vs : List ℕ) (v : ℕ) → sets l i (vs ++ (v ∷ [])) ≡ set (sets l i vs) (i + length vs) v
 sets-snoc l i [] v = ap (λ (k : ℕ). set l k v) (sym (add-zero i))
 sets-snoc l i (w ∷ vs) v = sets-snoc (set l i w) (suc i) vs v ∙ ap (λ (k : ℕ). set (sets (set l i w) (suc i) vs) k v) (suc-add i (length vs) ∙ sym (add-suc i (length vs)))
+
+-- and one in front of it
+pub set-sets : (l : List ℕ) (i k : ℕ) (vs : List ℕ) (v : ℕ) → i < k → set (sets l k vs) i v ≡ sets (set l i v) k vs
+set-sets l i k [] v h = refl
+set-sets l i k (w ∷ vs) v h =
+    set-sets (set l k w) i (suc k) vs v (omega arith)
+    ∙ ap (λ (m : List ℕ). sets m (suc k) vs) (set-comm l k i w v (λ q. absurd (omega (arith, q))))

@@ -3,43 +3,49 @@ use mathlib.Core.Path.{_≡_, refl, ap, sym, _∙_}
 use mathlib.Core.Bool.{Bool, true, false, true≢false}
 use mathlib.Core.List.{List, [], _∷_}
 use mathlib.Core.Logic.{_⊎_, ⊎-elim}
-use Prim.Native.Nat.{ℕ, zero, _+_, _-_, _*_, _≤_}
+use Prim.Native.Nat.{ℕ, zero, _-_, _≤_}
 use native.Mathlib.Omega.{arith}
+use native.Mathlib.Decide.{decLt}
 use lib.ListN.{length}
+use lib.Dec.{ltb}
 use Rattle.search.specs.Search.{pick, among}
-use Rattle.search.proofs.Least.{Order}
+use Rattle.search.proofs.Least.{Order, by-key}
 use Rattle.search.proofs.Every.{pick-ind}
-use Rattle.worth.specs.Value.{fraction}
-use Rattle.worth.proofs.Order.{Proper, less-asym, less-weak}
 use Rattle.settings.proofs.Laws.{ranges}
 use Rattle.pool.specs.declared.Frame.{Frame}
 use Rattle.pool.specs.declared.Pool.{Pool}
-use Rattle.pool.specs.Pool.{frameAt, withFrames}
+use Rattle.pool.specs.Pool.{frameAt, withFrames, nowOf}
 use Rattle.pool.proofs.Sound.{Sound}
 use Rattle.pool.proofs.Sizes.{Sized}
 use Rattle.pool.proofs.Quiet.{Alike, Quiet, sound-quiet}
-use Rattle.victim.specs.Watt.{valueAt}
-use Rattle.victim.proofs.Rules.{by-rule}
-use Rattle.victim.proofs.watt.Values.{value-positive}
+use Rattle.victim.specs.Watt.{valueAt, lessValue}
+use Rattle.victim.proofs.watt.Values.{from-order}
 use Rattle.batch.specs.Taken.{othersTo}
-use Rattle.batch.specs.Batch.{distance, batchOrder, waits, batchOf, cleanFrame, cleaned}
-use Rattle.batch.specs.ForCode.{rankOf}
-use Rattle.batch.proofs.Ranks.{rank-order}
+use Rattle.batch.specs.Batch.{batchOrder, waits, batchOf, cleanFrame, cleaned}
+use Rattle.batch.specs.ForCode.{numberOf}
+use Rattle.batch.proofs.Numbers.{number-order}
+use Rattle.batch.proofs.Values.{value-order}
 use Rattle.batch.proofs.Taken.{Chosen, chosen, Enough, enough}
 use Rattle.batch.proofs.Cleaned.{cleaned-at, cleaned-length}
 
-rank-positive : (p : Pool) (i : ℕ) → Proper (rankOf p i)
-unfolding rankOf
-rank-positive p i =
-    by-rule Proper (p .settings .rule) (fraction (frameAt (p .frames) i .last) 1) (fraction (frameAt (p .frames) i .count * 128 + distance p i) 1) (valueAt p i) (omega arith) (omega arith) (value-positive p i)
+-- what compares as an order does is one
+same-order : (less less′ : ℕ → ℕ → Bool) → ((i j : ℕ) → less i j ≡ less′ i j) → Order less → Order less′
+same-order less less′ e o = record {
+  asym = λ a b h. sym (e b a) ∙ o .asym a b (e a b ∙ h);
+  weak = λ a b c h k. sym (e a b) ∙ o .weak a b c (e a c ∙ h) (e b c ∙ k);
+}
+
+by-value : (p : Pool) → Order (lessValue p)
+unfolding valueAt
+by-value p = from-order (p .frames) (p .access) (p .write) (p .settings .weight) (nowOf p)
 
 module _ (p : Pool) (s : Sound p) where
   -- the batch order is an order, under every rule
   pub batch-order : Order (batchOrder p)
-  batch-order = record {
-    asym = λ a b h. sym (rank-order p s b a) ∙ less-asym (rankOf p a) (rankOf p b) (rank-order p s a b ∙ h);
-    weak = λ a b c h k. sym (rank-order p s a b) ∙ less-weak (rankOf p a) (rankOf p b) (rankOf p c) (rank-positive p b) (rank-order p s a c ∙ h) (rank-order p s b c ∙ k);
-  }
+  batch-order = elim (decLt (p .settings .rule) 2) [
+    | yes l ↦ same-order (λ i j. ltb (numberOf p i) (numberOf p j)) (batchOrder p) (number-order p s l) (by-key (numberOf p))
+    | no l ↦ same-order (lessValue p) (batchOrder p) (value-order p (omega arith)) (by-value p)
+  ]
 
   module _ (v : ℕ) where
     -- the others of a batch

@@ -2,7 +2,11 @@
 // commands, says how they are laid out, and knows the lines.
 ghost use mathlib.Core.Path.{_≡_};
 ghost use mathlib.Core.Bool.{true};
-ghost use Rattle.effect.specs.ForCode.{Enterable};
+ghost use Prim.Native.Nat.{_+_, _≤_, _<_};
+ghost use lib.ListN.{length};
+ghost use Rattle.reference.specs.ForCode.{RestZero};
+ghost use Rattle.tally.specs.Rows.{row, hit};
+ghost use Rattle.effect.specs.ForCode.{Enterable, LogsEnd};
 use lines::say;
 use lines::say_number;
 use pool::Pool;
@@ -52,7 +56,9 @@ fn skipped(p: Pool) -> Pool {
 }
 
 // A row whose page that left and batch length have no meaning.
-fn row_in(outcome: u32, frame: u32) -> Row {
+fn row_in(outcome: u32, frame: u32) -> Row
+    ensures { λ r. ⌜ r ≡ row outcome frame 0 0 ⌝ }
+{
     Row {
         outcome: outcome,
         frame: frame,
@@ -63,15 +69,41 @@ fn row_in(outcome: u32, frame: u32) -> Row {
 
 // Whether a record with that row may be entered: a reference only where one is left.
 fn enterable(p: Pool, row: Row) -> bool
-    ensures { λ r. ⌜ (r ≡ true → Enterable p row) ⌝ }
+    ensures { λ r. ⌜ (r ≡ true → Enterable p (row .frame)) ⌝ }
 {
-    let most = pool::REFERENCE_LIMIT - tally::one_if(row.outcome <= tally::MISS_DIRTY);
+    let most = pool::REFERENCE_LIMIT - search::one_if(row.outcome <= tally::MISS_DIRTY);
     (row.frame < 128) & ((p.k <= most) & ((0 < p.settings.epoch) & (p.settings.cap <= 7)))
+}
+
+// Whether the places past the n entries of a log are zero.
+fn ends(a: &[u32], at: usize, room: usize, n: usize) -> bool
+    requires { ⌜ at + room ≤ length (now a) ⌝ }
+    ensures { λ r. ⌜ (r ≡ true → RestZero (now (a .entry)) at room n) ⌝ }
+{
+    let mut j = n;
+    while j < room {
+        if a[at + j] != 0 {
+            return false;
+        }
+        j += 1;
+    }
+    true
+}
+
+// The same of both logs of frame i.
+fn logs_end(p: Pool, i: usize) -> bool
+    requires { ⌜ i < 128 ⌝ }
+    ensures { λ r. ⌜ (r ≡ true → LogsEnd p i) ⌝ }
+{
+    let fr = p.frames[i];
+    let access = ends(&p.access, i * 8, 8, fr.accesses as usize);
+    let write = ends(&p.write, i * 4, 4, fr.writes as usize);
+    access & write
 }
 
 // The pool after a record with that row.
 fn entered(p: Pool, row: Row, page: u32, kind: u16) -> Pool
-    requires { ⌜ Enterable p row ⌝ }
+    requires { ⌜ Enterable p (row .frame) × (row .outcome ≡ hit → LogsEnd p (row .frame)) ⌝ }
 {
     let h = table::head_of(p);
     let mut table = table::table_of(p);
@@ -89,8 +121,10 @@ fn kind_of(write: bool) -> u16 {
 fn hit(p: Pool, i: u32, write: bool) -> Pool {
     let row = row_in(tally::HIT, i);
     if enterable(p, row) {
-        say(b"hit\n");
-        return entered(p, row, 0, kind_of(write));
+        if logs_end(p, row.frame as usize) {
+            say(b"hit\n");
+            return entered(p, row, 0, kind_of(write));
+        }
     }
     skipped(p)
 }
@@ -209,7 +243,8 @@ fn say_unused(p: Pool) {
     if pool::check(p) == 0 {
         let table = table::table_of(p);
         say(b"unused");
-        say_found(reference::free_for(&table, p.settings.frames, Found::Nothing));
+        let n = reference::in_use(&table, p.settings.frames);
+        say_found(reference::lowest_unused(n, p.settings.frames));
         return;
     }
     say(b"skipped");
@@ -224,7 +259,8 @@ fn say_where(p: Pool, page: u32) {
     if pool::check(p) == 0 {
         let table = table::table_of(p);
         say(b"find");
-        say_found(reference::find(&table, page));
+        let n = reference::in_use(&table, p.settings.frames);
+        say_found(reference::find(&table, page, n));
         return;
     }
     say(b"skipped");

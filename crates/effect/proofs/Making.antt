@@ -1,6 +1,6 @@
 -- Making room, over variables.
 use mathlib.Core.Path.{_≡_, ap, sym, subst, _∙_}
-use mathlib.Core.Bool.{true}
+use mathlib.Core.Bool.{true, false}
 use mathlib.Core.List.{List}
 use Prim.Native.Nat.{ℕ, _+_, _≤_, _<_}
 use native.Mathlib.Omega.{arith}
@@ -14,7 +14,8 @@ use Rattle.pool.specs.declared.Pool.{Pool}
 use Rattle.pool.specs.Pool.{frameAt}
 use Rattle.pool.specs.Sound.{soundPool}
 use Rattle.pool.proofs.Sound.{Sound, told, made}
-use Rattle.table.specs.Table.{framesIn, headOf}
+use Rattle.table.specs.declared.Head.{Head}
+use Rattle.table.specs.Table.{framesIn, headOf, poolIn}
 use Rattle.victim.specs.Choice.{Choice, leftBy}
 use Rattle.victim.specs.Rules.{choiceOf}
 use Rattle.victim.proofs.Rules.{choice-owes}
@@ -24,7 +25,8 @@ use Rattle.batch.proofs.Cleaned.{pages-length}
 use Rattle.batch.proofs.Laws.{batch-length}
 use Rattle.tally.specs.declared.Row.{Row}
 use Rattle.tally.specs.Rows.{row, missClean, missDirty, refusedRow}
-use Rattle.effect.specs.ForCode.{roomRow, roomPages, roomFrames, RoomMade}
+use Rattle.effect.specs.declared.Worked.{Worked}
+use Rattle.effect.specs.ForCode.{roomRow, roomPages, roomFrames, RoomMade, wanted, RoomAsked, RoomWhere}
 
 module _ (p : Pool) (s : soundPool p ≡ true) (at places : ℕ) (c : Choice) (e : c ≡ choiceOf p) where
   sound : Sound p
@@ -82,3 +84,14 @@ module _ (p : Pool) (s : soundPool p ≡ true) (at places : ℕ) (c : Choice) (e
         list = rw f;
         frame = rw x (omega arith);
       }
+
+-- with a settled row
+module _ (p : Pool) (w : Row) where
+  pub asked-room : (at places : ℕ) → wanted p w ≡ true → RoomAsked p w at places → at + length (roomPages p) ≤ places
+  asked-room at places e h = rw e at (h .room)
+
+  pub room-wanted : (at : ℕ) (r : Worked) (t before after : List ℕ) → wanted p w ≡ true → RoomMade p at r t before after → RoomWhere p w at r t before after
+  room-wanted at r t before after e m = record { row = rw e (m .row); pool = rw e (m .pool); list = rw e (m .list); frame = m .frame }
+
+  pub room-unwanted : (at : ℕ) (h : Head) (t list : List ℕ) → wanted p w ≡ false → poolIn h t (p .access) (p .write) ≡ p → w .frame < 128 → RoomWhere p w at (record { row = w; head = h }) t list list
+  room-unwanted at h t list e q l = record { row = rw e; pool = rw e q; list = rw e; frame = l }

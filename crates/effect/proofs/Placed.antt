@@ -1,30 +1,25 @@
 -- Frames and logs changed in place are those of a hit, a fetch, a pin and an unpin.
 use mathlib.Core.Path.{_≡_, refl, ap, sym, _∙_}
 use mathlib.Core.Bool.{Bool, true, false, _&&_, _||_}
-use mathlib.Core.List.{List, [], _∷_}
+use mathlib.Core.List.{List}
 use Prim.Native.Nat.{ℕ, zero, suc, _+_, _-_, _*_, _≤_, _<_}
 use native.Mathlib.Omega.{arith}
-use native.Mathlib.Nat.{add-zero}
 use lib.ListN.{set}
 use lib.Seq.{getD-set-same, set-set}
 use lib.Dec.{eqb}
-use borrow.Author.Tests.{le-leb, lt-leb}
-use Rattle.search.specs.Search.{pick, oneIf}
+use Rattle.search.specs.Search.{pick}
 use Rattle.pool.specs.declared.Frame.{Frame}
 use Rattle.pool.specs.declared.Pool.{Pool}
 use Rattle.pool.specs.Pool.{emptyFrame, frameAt, epochAt, nowOf, withCount}
 use Rattle.pool.proofs.Sizes.{Sized}
-use Rattle.reference.specs.Logs.{lengthWith, logWith}
+use Rattle.table.specs.declared.Head.{Head}
+use Rattle.table.specs.Table.{headOf}
+use Rattle.reference.specs.Logs.{cleared, lengthWith, logWith}
 use Rattle.reference.specs.Reference.{withPins, raised, newFrame, referred, hitAt, fetchedAt, pinnedAt, unpinnedAt}
 use Rattle.tally.specs.declared.Row.{Row}
 use Rattle.tally.specs.Rows.{row, hit, missUnused, missClean, missDirty, unpinned}
 use Rattle.effect.specs.Record.{pinLimit, pinsAt, pinnedWhere, filled}
-use Rattle.effect.specs.ForCode.{pinsWith, hitFrame, fetchedFrame, byOutcome, enteringFrame, refers, fetches, clearedWhere, withLengths, enteredAt, entered}
-
-set-self : (l : List Frame) (i : ℕ) → set l i (frameAt l i) ≡ l
-set-self [] i = refl
-set-self (x ∷ xs) zero = refl
-set-self (x ∷ xs) (suc i) = ap (λ (l : List Frame). x ∷ l) (set-self xs i)
+use Rattle.effect.specs.ForCode.{pinsWith, hitFrame, fetchedFrame, unpinnedFrame, byOutcome, withStep, withLengths, enteredAt, hitIn, fetchedIn, entered}
 
 module _ (p : Pool) (z : Sized p) (i : ℕ) (l : i < 128) where
   own : (g : Frame) → frameAt (set (p .frames) i g) i ≡ g
@@ -46,91 +41,65 @@ module _ (p : Pool) (z : Sized p) (i : ℕ) (l : i < 128) where
   abbrev fetchOn : ℕ → Bool → Frame
   fetchOn page write = record { used = true; page = page; dirty = write; pins = 0; count = 1; last = p .k; accesses = 0; writes = 0 }
 
-  hit-placed : (write : Bool) → hitAt p i write ≡ enteredAt p i (hitOn write) false true write
+  hit-placed : (write : Bool) → hitAt p i write ≡ enteredAt p i (hitOn write) (p .access) (p .write) write
   unfolding hitAt referred nowOf
   hit-placed write =
       let g = withCount (frameAt (p .frames) i) (raised (p .settings .cap) (frameAt (p .frames) i .count)) in
       rw (own g, set-set (p .frames) i g)
 
-  fetch-placed : (page : ℕ) (write : Bool) → fetchedAt p i page write ≡ enteredAt p i (fetchOn page write) true true write
+  fetch-placed : (page : ℕ) (write : Bool) → fetchedAt p i page write ≡ enteredAt p i (fetchOn page write) (cleared (p .access) (i * 8) 8) (cleared (p .write) (i * 4) 4) write
   unfolding fetchedAt referred nowOf
   fetch-placed page write = rw (own (newFrame page), set-set (p .frames) i (newFrame page))
 
-  pin-placed : (g : Frame) (fetch refer write : Bool) → pinnedAt (enteredAt p i g fetch refer write) i ≡ enteredAt p i (withPins g (g .pins + 1)) fetch refer write
+  pin-placed : (g : Frame) (access write : List ℕ) (on : Bool) → pinnedAt (enteredAt p i g access write on) i ≡ enteredAt p i (withPins g (g .pins + 1)) access write on
   unfolding pinnedAt
-  pin-placed g fetch refer write =
-      let h = withLengths g (lengthWith (clearedWhere fetch (p .access) (i * 8) 8) (i * 8) 8 (g .accesses) (nowOf p) refer) (lengthWith (clearedWhere fetch (p .write) (i * 4) 4) (i * 4) 4 (g .writes) (nowOf p) write) in
+  pin-placed g access write on =
+      let h = withLengths g (lengthWith access (i * 8) 8 (g .accesses) (nowOf p) true) (lengthWith write (i * 4) 4 (g .writes) (nowOf p) on) in
       rw (own h, set-set (p .frames) i h)
 
-  unpin-placed : unpinnedAt p i ≡ enteredAt p i (withPins (frameAt (p .frames) i) (frameAt (p .frames) i .pins - 1)) false false false
-  unfolding unpinnedAt lengthWith logWith
-  unpin-placed = rw (add-zero (p .k))
-
-  none-placed : enteredAt p i (frameAt (p .frames) i) false false false ≡ p
-  unfolding lengthWith logWith
-  none-placed = rw (set-self (p .frames) i, add-zero (p .k))
-
   -- with a pin where it is asked for
-  pinned-placed : (q : Pool) (g : Frame) (fetch write pin : Bool) → (pin && eqb (g .pins) pinLimit) ≡ false → q ≡ enteredAt p i g fetch true write
-      → pinnedWhere q pin i ≡ enteredAt p i (withPins g (pinsWith pin (g .pins))) fetch true write
-  pinned-placed q g fetch write true t e = ap (λ (x : Pool). pinnedAt x i) e ∙ pin-placed g fetch true write ∙ rw t
-  pinned-placed q g fetch write false t e = e
+  pinned-placed : (q : Pool) (g : Frame) (access write : List ℕ) (on pin : Bool) → (pin && eqb (g .pins) pinLimit) ≡ false → q ≡ enteredAt p i g access write on
+      → pinnedWhere q pin i ≡ enteredAt p i (withPins g (pinsWith pin (g .pins))) access write on
+  pinned-placed q g access write on true t e = ap (λ (x : Pool). pinnedAt x i) e ∙ pin-placed g access write on ∙ rw t
+  pinned-placed q g access write on false t e = e
 
   -- a record's frame
   pub entered-hit : (page kind : ℕ) → (eqb kind 2 && eqb (pinsAt p i) pinLimit) ≡ false → entered p (row hit i 0 0) page kind ≡ pinnedWhere (hitAt p i (eqb kind 1)) (eqb kind 2) i
-  unfolding entered enteringFrame
-  entered-hit page kind t = sym (pinned-placed (hitAt p i (eqb kind 1)) (hitOn (eqb kind 1)) false (eqb kind 1) (eqb kind 2) t (hit-placed (eqb kind 1)))
+  unfolding entered hitIn
+  entered-hit page kind t = sym (pinned-placed (hitAt p i (eqb kind 1)) (hitOn (eqb kind 1)) (p .access) (p .write) (eqb kind 1) (eqb kind 2) t (hit-placed (eqb kind 1)))
 
   none-pinned : (pin : Bool) → (pin && eqb 0 pinLimit) ≡ false
   none-pinned true = refl
   none-pinned false = refl
 
-  filled-placed : (page kind : ℕ) → filled p i page (eqb kind 1) (eqb kind 2) ≡ enteredAt p i (fetchedFrame page kind (p .k)) true true (eqb kind 1)
+  filled-placed : (page kind : ℕ) → filled p i page (eqb kind 1) (eqb kind 2) ≡ fetchedIn p i page kind
+  unfolding fetchedIn
   filled-placed page kind =
-      pinned-placed (fetchedAt p i page (eqb kind 1)) (fetchOn page (eqb kind 1)) true (eqb kind 1) (eqb kind 2) (none-pinned (eqb kind 2)) (fetch-placed page (eqb kind 1))
+      pinned-placed (fetchedAt p i page (eqb kind 1)) (fetchOn page (eqb kind 1)) (cleared (p .access) (i * 8) 8) (cleared (p .write) (i * 4) 4) (eqb kind 1) (eqb kind 2) (none-pinned (eqb kind 2))
+      (fetch-placed page (eqb kind 1))
 
   pub entered-free : (page kind : ℕ) → entered p (row missUnused i 0 0) page kind ≡ filled p i page (eqb kind 1) (eqb kind 2)
-  unfolding entered enteringFrame
+  unfolding entered
   entered-free page kind = sym (filled-placed page kind)
 
   pub entered-left : (dirty : Bool) (left batch page kind : ℕ) → entered p (row (pick dirty missDirty missClean) i left batch) page kind ≡ filled p i page (eqb kind 1) (eqb kind 2)
-  unfolding entered enteringFrame
+  unfolding entered
   entered-left true left batch page kind = sym (filled-placed page kind)
   entered-left false left batch page kind = sym (filled-placed page kind)
 
-  pub entered-unpin : (page kind : ℕ) → entered p (row unpinned i 0 0) page kind ≡ unpinnedAt p i
-  unfolding entered enteringFrame
-  entered-unpin page kind = sym unpin-placed
+pub entered-unpin : (p : Pool) (i page kind : ℕ) → entered p (row unpinned i 0 0) page kind ≡ unpinnedAt p i
+unfolding entered
+entered-unpin p i page kind = refl
 
--- a refused record changes nothing
-pub entered-none : (p : Pool) (z : Sized p) (n page kind : ℕ) → 5 ≤ n → entered p (row n 0 0 0) page kind ≡ p
-unfolding entered enteringFrame
-entered-none p z zero page kind l = absurd (omega arith)
-entered-none p z (suc zero) page kind l = absurd (omega arith)
-entered-none p z (suc (suc zero)) page kind l = absurd (omega arith)
-entered-none p z (suc (suc (suc zero))) page kind l = absurd (omega arith)
-entered-none p z (suc (suc (suc (suc zero)))) page kind l = absurd (omega arith)
-entered-none p z (suc (suc (suc (suc (suc n))))) page kind l =
-    rw (le-leb missUnused (suc (suc (suc (suc (suc n))))) (omega arith), lt-leb (suc (suc (suc (suc (suc n))))) missDirty (omega arith)) (none-placed p z 0 (omega arith))
-
--- a frame by its outcome
-module _ (g fr : Frame) (n page kind cap k : ℕ) where
-  pub entering-hit : n ≡ 0 → g ≡ hitFrame fr kind cap k → g ≡ enteringFrame fr n page kind cap k
-  unfolding enteringFrame
-  entering-hit e h = h ∙ rw e
-
-  pub entering-unpin : n ≡ 4 → g ≡ withPins fr (fr .pins - 1) → g ≡ enteringFrame fr n page kind cap k
-  unfolding enteringFrame
-  entering-unpin e h = h ∙ rw e
-
-by-fetch : {A : Type 0} (n : ℕ) (a b c d : A) → 1 ≤ n → n ≤ 3 → byOutcome n a b c d ≡ b
+-- by outcome
+by-fetch : {A : Type 0} (n : ℕ) (a b c d : A) → 1 ≤ n → n ≤ 3 → b ≡ byOutcome n a b c d
 by-fetch zero a b c d l m = absurd (omega arith)
 by-fetch (suc zero) a b c d l m = refl
 by-fetch (suc (suc zero)) a b c d l m = refl
 by-fetch (suc (suc (suc zero))) a b c d l m = refl
 by-fetch (suc (suc (suc (suc n)))) a b c d l m = absurd (omega arith)
 
-by-none : {A : Type 0} (n : ℕ) (a b c d : A) → 5 ≤ n → byOutcome n a b c d ≡ d
+by-none : {A : Type 0} (n : ℕ) (a b c d : A) → 5 ≤ n → d ≡ byOutcome n a b c d
 by-none zero a b c d l = absurd (omega arith)
 by-none (suc zero) a b c d l = absurd (omega arith)
 by-none (suc (suc zero)) a b c d l = absurd (omega arith)
@@ -138,26 +107,74 @@ by-none (suc (suc (suc zero))) a b c d l = absurd (omega arith)
 by-none (suc (suc (suc (suc zero)))) a b c d l = absurd (omega arith)
 by-none (suc (suc (suc (suc (suc n))))) a b c d l = refl
 
-pub entering-fetch : (g fr : Frame) (n page kind cap k : ℕ) → 1 ≤ n → n ≤ 3 → g ≡ fetchedFrame page kind k → g ≡ enteringFrame fr n page kind cap k
-unfolding enteringFrame
-entering-fetch g fr n page kind cap k l m h = h ∙ sym (by-fetch n (hitFrame fr kind cap k) (fetchedFrame page kind k) (withPins fr (fr .pins - 1)) fr l m)
+-- what the ways through `enter` leave
+module _ (p q : Pool) (w : Row) (page kind : ℕ) where
+  pub way-hit : w .outcome ≡ 0 → q ≡ hitIn p (w .frame) kind → q ≡ entered p w page kind
+  unfolding entered
+  way-hit e h = h ∙ rw e
 
-pub entering-none : (fr : Frame) (n page kind cap k : ℕ) → 5 ≤ n → fr ≡ enteringFrame fr n page kind cap k
-unfolding enteringFrame
-entering-none fr n page kind cap k l = sym (by-none n (hitFrame fr kind cap k) (fetchedFrame page kind k) (withPins fr (fr .pins - 1)) fr l)
+  pub way-fetch : 1 ≤ w .outcome → w .outcome ≤ 3 → q ≡ fetchedIn p (w .frame) page kind → q ≡ entered p w page kind
+  unfolding entered
+  way-fetch l m h = h ∙ by-fetch (w .outcome) (hitIn p (w .frame) kind) (fetchedIn p (w .frame) page kind) (unpinnedAt p (w .frame)) p l m
+
+  pub way-unpin : w .outcome ≡ 4 → q ≡ unpinnedAt p (w .frame) → q ≡ entered p w page kind
+  unfolding entered
+  way-unpin e h = h ∙ rw e
+
+  -- a refused record changes nothing
+  pub way-none : 5 ≤ w .outcome → q ≡ p → q ≡ entered p w page kind
+  unfolding entered
+  way-none l h = h ∙ by-none (w .outcome) (hitIn p (w .frame) kind) (fetchedIn p (w .frame) page kind) (unpinnedAt p (w .frame)) p l
+
+pub entered-none : (p : Pool) (n page kind : ℕ) → 5 ≤ n → entered p (row n 0 0 0) page kind ≡ p
+entered-none p n page kind l = sym (way-none p p (row n 0 0 0) page kind l refl)
+
+-- and none changes the settings
+pub entered-settings : (p : Pool) (w : Row) (page kind : ℕ) → entered p w page kind .settings ≡ p .settings
+unfolding entered hitIn fetchedIn unpinnedAt
+entered-settings p w page kind = go (w .outcome)
+  where
+    go : (n : ℕ) → byOutcome n (hitIn p (w .frame) kind) (fetchedIn p (w .frame) page kind) (unpinnedAt p (w .frame)) p .settings ≡ p .settings
+    go zero = refl
+    go (suc zero) = refl
+    go (suc (suc zero)) = refl
+    go (suc (suc (suc zero))) = refl
+    go (suc (suc (suc (suc zero)))) = refl
+    go (suc (suc (suc (suc (suc n))))) = refl
 
 -- nothing to take off
-pub unpinned-none : (fr : Frame) → fr .pins ≤ 0 → fr ≡ withPins fr (fr .pins - 1)
+pub unpinned-none : (fr : Frame) → fr .pins ≤ 0 → fr ≡ unpinnedFrame fr
 unpinned-none fr l = let e : fr .pins ≡ fr .pins - 1 = omega arith in ap (withPins fr) e
 
--- what the code leaves of a pool
-pub placed-is : (p : Pool) (w : Row) (page kind epoch : ℕ) (old g : Frame) (n m one : ℕ) (a b : List ℕ) (fs : List Frame) → epoch ≡ epochAt (p .settings) (p .k)
-    → old ≡ frameAt (p .frames) (w .frame)
-    → g ≡ enteringFrame old (w .outcome) page kind (p .settings .cap) (p .k)
-    → (n ≡ lengthWith (clearedWhere (fetches (w .outcome)) (p .access) (w .frame * 8) 8) (w .frame * 8) 8 (g .accesses) epoch (refers (w .outcome))) × (a ≡ logWith (clearedWhere (fetches (w .outcome)) (p .access) (w .frame * 8) 8) (w .frame * 8) 8 (g .accesses) epoch (refers (w .outcome)))
-    → (m ≡ lengthWith (clearedWhere (fetches (w .outcome)) (p .write) (w .frame * 4) 4) (w .frame * 4) 4 (g .writes) epoch (refers (w .outcome) && eqb kind 1)) × (b ≡ logWith (clearedWhere (fetches (w .outcome)) (p .write) (w .frame * 4) 4) (w .frame * 4) 4 (g .writes) epoch (refers (w .outcome) && eqb kind 1))
-    → fs ≡ set (p .frames) (w .frame) (withLengths g n m)
-    → one ≡ oneIf (refers (w .outcome))
-    → _≡_ {A = Pool} (record { settings = p .settings; k = p .k + one; hand = p .hand; sampler = p .sampler; frames = fs; access = a; write = b }) (entered p w page kind)
-unfolding entered nowOf
-placed-is p w page kind epoch old g n m one a b fs e d h x y f o = rw (f, x .0, x .1, y .0, y .1, o, h, d, e)
+-- what the code leaves of a pool: a reference in frame i, with its logs as they are or emptied
+module _ (p : Pool) (i kind epoch : ℕ) (g : Head) (e : epoch ≡ epochAt (p .settings) (p .k)) (q : g ≡ withStep (headOf p)) where
+  abbrev leaves : List Frame → List ℕ → List ℕ → Pool
+  leaves fs a b = record { settings = g .settings; k = g .k; hand = g .hand; sampler = g .sampler; frames = fs; access = a; write = b }
+
+  pub hit-left : (old fr : Frame) (n m : ℕ) (a b : List ℕ) (fs : List Frame) → old ≡ frameAt (p .frames) i → fr ≡ hitFrame old kind (p .settings .cap) (p .k)
+      → (n ≡ lengthWith (p .access) (i * 8) 8 (fr .accesses) epoch true) × (a ≡ logWith (p .access) (i * 8) 8 (fr .accesses) epoch true)
+      → (m ≡ lengthWith (p .write) (i * 4) 4 (fr .writes) epoch (eqb kind 1)) × (b ≡ logWith (p .write) (i * 4) 4 (fr .writes) epoch (eqb kind 1))
+      → fs ≡ set (p .frames) i (withLengths fr n m) → leaves fs a b ≡ hitIn p i kind
+  unfolding hitIn nowOf
+  hit-left old fr n m a b fs d h x y f = rw (q, f, x .0, x .1, y .0, y .1, h, d, e)
+
+  pub fetch-left : (fr : Frame) (page n m : ℕ) (c d a b : List ℕ) (fs : List Frame) → fr ≡ fetchedFrame page kind (p .k) → c ≡ cleared (p .access) (i * 8) 8 → d ≡ cleared (p .write) (i * 4) 4
+      → (n ≡ lengthWith c (i * 8) 8 0 epoch true) × (a ≡ logWith c (i * 8) 8 0 epoch true)
+      → (m ≡ lengthWith d (i * 4) 4 0 epoch (eqb kind 1)) × (b ≡ logWith d (i * 4) 4 0 epoch (eqb kind 1))
+      → fs ≡ set (p .frames) i (withLengths fr n m) → leaves fs a b ≡ fetchedIn p i page kind
+  unfolding fetchedIn nowOf
+  fetch-left fr page n m c d a b fs h u v x y f = rw (q, f, x .0, x .1, y .0, y .1, h, u, v, e)
+
+-- a frame that is hit has its logs' lengths
+module _ (fs : List Frame) (i kind cap k : ℕ) (old fr : Frame) (d : old ≡ frameAt fs i) (h : fr ≡ hitFrame old kind cap k) where
+  pub hit-accesses : fr .accesses ≡ frameAt fs i .accesses
+  hit-accesses = rw (h, d)
+
+  pub hit-writes : fr .writes ≡ frameAt fs i .writes
+  hit-writes = rw (h, d)
+
+-- and an unpin
+pub unpin-left : (p : Pool) (i : ℕ) (fs : List Frame) → fs ≡ set (p .frames) i (unpinnedFrame (frameAt (p .frames) i))
+    → _≡_ {A = Pool} (record { settings = p .settings; k = p .k; hand = p .hand; sampler = p .sampler; frames = fs; access = p .access; write = p .write }) (unpinnedAt p i)
+unfolding unpinnedAt
+unpin-left p i fs e = rw e

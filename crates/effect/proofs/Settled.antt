@@ -13,8 +13,7 @@ use Rattle.pool.specs.declared.Frame.{Frame}
 use Rattle.pool.specs.declared.Pool.{Pool}
 use Rattle.pool.specs.Pool.{referenceLimit}
 use Rattle.pool.specs.Sound.{soundPool}
-use Rattle.reference.specs.Search.{findPage}
-use Rattle.reference.proofs.Free.{freeFor}
+use Rattle.reference.specs.Search.{findPage, lowestUnused}
 use Rattle.tally.specs.declared.Row.{Row}
 use Rattle.tally.specs.Rows.{row, hit, missUnused, missClean, unpinned, refusedRow}
 use Rattle.effect.specs.Record.{pinLimit, pinsAt}
@@ -96,19 +95,14 @@ module _ (k pins : ℕ) (found free : Found) (w : Row) where
 pub found-framed : (fs : List Frame) (page : ℕ) (found : Found) → found ≡ findPage fs page → Framed found
 found-framed fs page found e i h = found-few fs page i (sym e ∙ h)
 
-pub free-framed : (p : Pool) (found free : Found) → soundPool p ≡ true → free ≡ freeFor p found → Framed free
-free-framed p (At j) free s e i h = absurd (nothing-at i (sym e ∙ h))
-  where
-    nothing-at : (i : ℕ) → _≡_ {A = Found} Nothing (At i) → ⊥
-    nothing-at i q = let z : _≡_ {A = ℕ} 0 1 = ap (λ (f : Found). onFound f (λ _. 1) 0) q in omega arith
-free-framed p Nothing free s e i h = unused-few p i s (sym e ∙ h)
+pub free-framed : (p : Pool) (free : Found) → soundPool p ≡ true → free ≡ lowestUnused p → Framed free
+free-framed p free s e i h = unused-few p i s (sym e ∙ h)
 
 -- the row, but where a victim is wanted
 abbrev pub settledOf : Pool → ℕ → ℕ → Row
-settledOf p page kind =
-    settledBy (p .k) (findPage (p .frames) page) (pinsAt p (placeOf (findPage (p .frames) page))) (freeFor p (findPage (p .frames) page)) kind
+settledOf p page kind = settledBy (p .k) (findPage (p .frames) page) (pinsAt p (placeOf (findPage (p .frames) page))) (lowestUnused p) kind
 
 -- the row of a record from what was found in its pool
-pub settled-is : (p : Pool) (page kind pins : ℕ) (found free : Found) (w : Row) → found ≡ findPage (p .frames) page → free ≡ freeFor p found → pins ≡ pinsAt p (placeOf found)
+pub settled-is : (p : Pool) (page kind pins : ℕ) (found free : Found) (w : Row) → found ≡ findPage (p .frames) page → free ≡ lowestUnused p → pins ≡ pinsAt p (placeOf found)
     → w ≡ settledBy (p .k) found pins free kind → w ≡ settledOf p page kind
 settled-is p page kind pins found free w a b c e = e ∙ rw (c, b, a)

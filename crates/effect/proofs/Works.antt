@@ -7,20 +7,22 @@ use native.Mathlib.Omega.{arith}
 use lib.ListN.{length}
 use lib.Seq.{sets}
 use lib.Dec.{eqb, leb}
+use borrow.Author.Tests.{eqb-true, eqb-false}
 use Rattle.search.specs.declared.Found.{Found}
 use Rattle.search.specs.declared.Found.the-variants.{At, Nothing}
+use Rattle.search.specs.Search.{pick, onFound}
+use Rattle.search.proofs.Every.{pick-ind}
 use Rattle.refusal.specs.Refusals.{badField, noReferenceLeft, noFrame, notPinned, pinsFull}
 use Rattle.settings.proofs.Laws.{ranges}
 use Rattle.pool.specs.declared.Pool.{Pool}
 use Rattle.pool.specs.Pool.{referenceLimit, frameAt, withFrames}
 use Rattle.pool.specs.Sound.{soundPool}
-use Rattle.pool.proofs.Sound.{Sound, told, made}
+use Rattle.pool.proofs.Sound.{Logged, Sound, told, made}
 use Rattle.pool.proofs.Sizes.{Sized}
 use Rattle.table.specs.declared.Head.{Head}
-use Rattle.table.specs.Table.{poolIn}
+use Rattle.table.specs.Table.{headOf, poolIn}
 use Rattle.table.proofs.Held.{frames-long}
 use Rattle.reference.specs.Search.{findPage, lowestUnused}
-use Rattle.reference.proofs.Free.{freeFor}
 use Rattle.reference.specs.Reference.{hitAt, unpinnedAt}
 use Rattle.victim.specs.Choice.{leftBy}
 use Rattle.victim.specs.Rules.{choiceOf}
@@ -28,13 +30,13 @@ use Rattle.victim.proofs.Rules.{choice-owes, choice-sized}
 use Rattle.batch.specs.Batch.{batchOf, cleaned}
 use Rattle.batch.proofs.Laws.{batch-sized}
 use Rattle.tally.specs.declared.Row.{Row}
-use Rattle.tally.specs.Rows.{row, hit, missUnused, missClean, unpinned, refusedRow}
+use Rattle.tally.specs.Rows.{row, hit, missUnused, missClean, missDirty, unpinned, refusedRow}
 use Rattle.effect.specs.Record.{Did, did, pinLimit, pinsAt, refusal, pinnedWhere, filled, hitOf, leavingOf, evictionOf, missOf, referenceOf, unpinOf, recordOf}
 use Rattle.effect.specs.declared.Worked.{Worked}
-use Rattle.effect.specs.ForCode.{Effect, effectIn, Leaves, Plays, Enterable, RoomMade, settledHit, settledMiss, settledReference, settledUnpin, settledBy, placeOf, roomRow, roomPages, roomFrames, roomed, entered, fullOf}
+use Rattle.effect.specs.ForCode.{Effect, Leaves, Plays, Enterable, LogsEnd, RoomAsked, RoomWhere, settledHit, settledMiss, settledReference, settledUnpin, settledBy, placeOf, roomRow, roomPages, roomFrames, roomed, wanted, rowWhere, pagesWhere, poolWhere, movedTo, entered}
 use Rattle.effect.proofs.Settled.{settledOf}
 use Rattle.effect.proofs.Ways.{found-few, unused-few, at-limit, resident, absent, free, full, victim, no-victim, pins-full, pins-free, unpin-absent, unpin-none, unpin-one}
-use Rattle.effect.proofs.Placed.{entered-hit, entered-free, entered-left, entered-unpin, entered-none}
+use Rattle.effect.proofs.Placed.{entered-hit, entered-free, entered-left, entered-unpin, entered-none, entered-settings}
 
 -- a pool, a row and the pages written, such that entering the row gives what was done
 pub record Works (d : Did) (q : Pool) (w : Row) (pages : List ℕ) (page kind : ℕ) : Type 0 where
@@ -52,7 +54,7 @@ module _ (p : Pool) (s : Sound p) (z : Sized p) (page kind : ℕ) where
   settled-way w d ne a b c = (λ _. record { row = a; pool = b; written = c }, λ e. absurd (ne e))
 
   refused-way : (r : ℕ) → Way p (refusal p r) (refusedRow r) page kind
-  refused-way r = settled-way (refusedRow r) (refusal p r) (λ e. omega arith) refl (entered-none p z (100 + r) page kind (omega arith)) refl
+  refused-way r = settled-way (refusedRow r) (refusal p r) (λ e. omega arith) refl (entered-none p (100 + r) page kind (omega arith)) refl
 
   -- making room
   room-found : (v : ℕ) → choiceOf p .found ≡ At v → Works (leavingOf (leftBy p (choiceOf p)) v page (eqb kind 1) (eqb kind 2)) (roomed p) (roomRow p) (roomPages p) page kind
@@ -70,7 +72,7 @@ module _ (p : Pool) (s : Sound p) (z : Sized p) (page kind : ℕ) where
 
   room-none : choiceOf p .found ≡ Nothing → Works (refusal p noFrame) (roomed p) (roomRow p) (roomPages p) page kind
   unfolding roomRow roomPages roomFrames
-  room-none e = record { row = rw e; pool = rw (e, choice-owes .still p e) (entered-none p z 110 page kind (omega arith)); written = rw e }
+  room-none e = record { row = rw e; pool = rw (e, choice-owes .still p e) (entered-none p 110 page kind (omega arith)); written = rw e }
 
   room-works : Works (evictionOf p page (eqb kind 1) (eqb kind 2)) (roomed p) (roomRow p) (roomPages p) page kind
   room-works = go (choiceOf p .found) refl
@@ -113,7 +115,7 @@ module _ (p : Pool) (s : Sound p) (z : Sized p) (page kind : ℕ) where
   place = findPage (p .frames) page
 
   abbrev settledRef : Row
-  settledRef = settledReference (p .k) place (pinsAt p (placeOf place)) (freeFor p place) pin
+  settledRef = settledReference (p .k) place (pinsAt p (placeOf place)) (lowestUnused p) pin
 
   reference-way : Way p (referenceOf p page write pin) settledRef page kind
   unfolding settledReference
@@ -138,7 +140,7 @@ module _ (p : Pool) (s : Sound p) (z : Sized p) (page kind : ℕ) where
       pinned true i a e = same-way (unpinOf p page) (refusal p notPinned) settledOff (refusedRow notPinned) (unpin-none p page i a e) (rw (a, e)) (refused-way notPinned)
       pinned false i a e =
           same-way (unpinOf p page) (did (row unpinned i 0 0) [] (unpinnedAt p i)) settledOff (row unpinned i 0 0) (unpin-one p page i a e) (rw (a, e))
-          (settled-way (row unpinned i 0 0) (did (row unpinned i 0 0) [] (unpinnedAt p i)) (λ q. omega arith) refl (entered-unpin p z i (found-few (p .frames) page i a) page kind) refl)
+          (settled-way (row unpinned i 0 0) (did (row unpinned i 0 0) [] (unpinnedAt p i)) (λ q. omega arith) refl (entered-unpin p i page kind) refl)
 
       found : (f : Found) → place ≡ f → Way p (unpinOf p page) settledOff page kind
       found (At i) a = pinned (eqb (pinsAt p i) 0) i a refl
@@ -152,60 +154,80 @@ record-way p s z page (suc (suc zero)) = reference-way p s z page 2
 record-way p s z page (suc (suc (suc zero))) = unpin-way p s z page 3
 record-way p s z page (suc (suc (suc (suc kind)))) = refused-way p s z page (suc (suc (suc (suc kind)))) badField
 
--- where no victim is wanted, the record's row is settled
-pub worked-settled : (p : Pool) (s : Sound p) (z : Sized p) (page kind : ℕ) → (settledOf p page kind .outcome ≡ missClean → ⊥) → Works (recordOf p page kind) p (settledOf p page kind) [] page kind
-worked-settled p s z page kind = record-way p s z page kind .0
+-- with the row settled and room made where it is wanted, the record is entered
+pub worked-is : (p : Pool) (s : Sound p) (z : Sized p) (page kind : ℕ) (w : Row) → w ≡ settledOf p page kind → Works (recordOf p page kind) (poolWhere p w) (rowWhere p w) (pagesWhere p w) page kind
+worked-is p s z page kind w e = rw e (go (wanted p (settledOf p page kind)) refl)
+  where
+    go : (b : Bool) → wanted p (settledOf p page kind) ≡ b → Works (recordOf p page kind) (pick b (roomed p) p) (pick b (roomRow p) (settledOf p page kind)) (pick b (roomPages p) []) page kind
+    go true q = record-way p s z page kind .1 (eqb-true (settledOf p page kind .outcome) missClean q)
+    go false q = record-way p s z page kind .0 (eqb-false (settledOf p page kind .outcome) missClean q)
 
--- where one is wanted, room is made
-pub worked-roomed : (p : Pool) (s : Sound p) (z : Sized p) (page kind : ℕ) → settledOf p page kind .outcome ≡ missClean → Works (recordOf p page kind) (roomed p) (roomRow p) (roomPages p) page kind
-worked-roomed p s z page kind = record-way p s z page kind .1
-
-pub row-and-pool : (w v : Row) (q r : Pool) → w ≡ v → q ≡ r → _≡_ {A = Effect} (record { row = w; pool = q }) (record { row = v; pool = r })
+row-and-pool : (w v : Row) (q r : Pool) → w ≡ v → q ≡ r → _≡_ {A = Effect} (record { row = w; pool = q }) (record { row = v; pool = r })
 row-and-pool w v q r e f = rw (e, f)
 
--- a sound pool, with room made or not, may be entered
-pub enterable : (p : Pool) (w : Row) → soundPool p ≡ true → w .frame < 128 → Enterable p w
-enterable p w h l =
-    let s = told p h in
+-- a sound pool may be entered
+pub enterable : (p : Pool) (i : ℕ) → Sound p → i < 128 → Enterable p i
+enterable p i s l =
     let r = ranges (p .settings) (s .settings) in
     record { frame = l; epoch = r .epoch .0; cap = r .cap .1; few = s .few }
+
+pub logs-end : (p : Pool) (i : ℕ) → Sound p → i < 128 → LogsEnd p i
+logs-end p i s l = record { access = s .frame i l .access .rest; write = s .frame i l .write .rest }
 
 -- a head, a table and logs make a pool of the right size
 pub sized-in : (h : Head) (t access write : List ℕ) → length access ≡ 1024 → length write ≡ 512 → Sized (poolIn h t access write)
 sized-in h t access write a b = record { frames = frames-long t 128; access = a; write = b }
 
-module _ (p : Pool) (s : soundPool p ≡ true) (z : Sized p) (page kind at : ℕ) where
-  pub played-settled : (w : Row) (g : Head) (t access write list : List ℕ) → w ≡ settledOf p page kind → (w .outcome ≡ missClean → ⊥) → poolIn g t access write ≡ entered p w page kind
-      → Leaves (recordOf p page kind) at (record { row = w; head = g }) t access write list list
-  played-settled w g t access write list e ne h =
-      let k = worked-settled p (told p s) z page kind (λ c. ne (ap (λ (x : Row). x .outcome) e ∙ c)) in
-      record {
-        effect = row-and-pool w (recordOf p page kind .row) (poolIn g t access write) (recordOf p page kind .pool) (e ∙ k .row) (h ∙ ap (λ (x : Row). entered p x page kind) e ∙ k .pool);
-        list = ap (sets list at) (k .written);
-      }
+-- a head with the same settings that moved on
+moved-on : (p : Pool) (g : Head) → g .settings ≡ p .settings → movedTo (headOf p) g ≡ g
+moved-on p g e = rw (← e)
 
-  pub played-roomed : (w : Row) (r : Worked) (t access write before after : List ℕ) → w ≡ settledOf p page kind → w .outcome ≡ missClean
-      → effectIn r t access write ≡ fullOf p page kind → after ≡ sets before at (roomPages p) → Leaves (recordOf p page kind) at r t access write before after
-  played-roomed w r t access write before after e c h l =
-      let k = worked-roomed p (told p s) z page kind (sym (ap (λ (x : Row). x .outcome) e) ∙ c) in
-      record {
-        effect = h ∙ row-and-pool (roomRow p) (recordOf p page kind .row) (entered (roomed p) (roomRow p) page kind) (recordOf p page kind .pool) (k .row) (k .pool);
-        list = l ∙ ap (sets before at) (k .written);
-      }
+-- a victim is wanted of no hit
+no-hit : (p : Pool) → roomRow p .outcome ≡ hit → ⊥
+unfolding roomRow
+no-hit p e = go (choiceOf p .found) refl e
+  where
+    go : (f : Found) → choiceOf p .found ≡ f → onFound f (λ v. row (pick (frameAt (choiceOf p .frames) v .dirty) missDirty missClean) v (frameAt (choiceOf p .frames) v .page) (length (batchOf (leftBy p (choiceOf p)) v))) (refusedRow noFrame) .outcome ≡ hit → ⊥
+    go (At v) a q = pick-ind (λ n. n ≡ hit → ⊥) (frameAt (choiceOf p .frames) v .dirty) missDirty missClean (λ _ x. omega arith) (λ _ x. omega arith) q
+    go Nothing a q = omega arith
 
-  pub full-room : (w : Row) (places : ℕ) → w ≡ settledOf p page kind → w .outcome ≡ missClean → Plays p (recordOf p page kind) at places → at + length (roomPages p) ≤ places
-  full-room w places e c h =
-      let k = worked-roomed p (told p s) z page kind (sym (ap (λ (x : Row). x .outcome) e) ∙ c) in
-      subst (λ (l : List ℕ). at + length l ≤ places) (sym (k .written)) (h .room)
+-- what a settled row asks
+module _ (p : Pool) (s : soundPool p ≡ true) (z : Sized p) (page kind at : ℕ) (w : Row) (e : w ≡ settledOf p page kind) where
+  pub room-asked : (places : ℕ) → w .frame < 128 → Plays p (recordOf p page kind) at places → RoomAsked p w at places
+  room-asked places l h = record {
+    sound = s;
+    frame = l;
+    room = subst (λ (x : List ℕ). at + length x ≤ places) (sym (worked-is p (told p s) z page kind w e .written)) (h .room);
+  }
 
--- a record entered where room was made
-pub full-is : (p : Pool) (r : Worked) (at page kind : ℕ) (q : Pool) (t before after : List ℕ) → RoomMade p at r t before after
-    → q ≡ entered (poolIn (r .head) t (p .access) (p .write)) (r .row) page kind
-    → _≡_ {A = Effect} (record { row = r .row; pool = q }) (fullOf p page kind)
-full-is p r at page kind q t before after m h = rw (h, m .row, m .pool)
+  -- and once there is room it may be entered
+  module _ (r : Worked) (t before after : List ℕ) (m : RoomWhere p w at r t before after) where
+    abbrev q : Pool
+    q = poolIn (r .head) t (p .access) (p .write)
 
--- room may be entered
-pub room-enterable : (p : Pool) (r : Worked) (at : ℕ) (t before after : List ℕ) → soundPool p ≡ true → RoomMade p at r t before after → Enterable (poolIn (r .head) t (p .access) (p .write)) (r .row)
-room-enterable p r at t before after s m =
-    let a = enterable p (r .row) s (m .frame) in
-    subst (λ (q : Pool). Enterable q (r .row)) (sym (m .pool)) (record { frame = a .frame; epoch = a .epoch; cap = a .cap; few = a .few })
+    pub room-enterable : Enterable q (r .row .frame) × (r .row .outcome ≡ hit → LogsEnd q (r .row .frame))
+    room-enterable = rw (m .pool) (go (wanted p w) refl)
+      where
+        go : (b : Bool) → wanted p w ≡ b → Enterable (pick b (roomed p) p) (r .row .frame) × (r .row .outcome ≡ hit → LogsEnd (pick b (roomed p) p) (r .row .frame))
+        go true b =
+            let a = enterable p (r .row .frame) (told p s) (m .frame) in (
+              record { frame = a .frame; epoch = a .epoch; cap = a .cap; few = a .few },
+              λ h. absurd (no-hit p (sym (ap (λ (x : Row). x .outcome) (m .row ∙ ap (λ (c : Bool). pick c (roomRow p) w) b)) ∙ h)),
+            )
+        go false b = (enterable p (r .row .frame) (told p s) (m .frame), λ _. logs-end p (r .row .frame) (told p s) (m .frame))
+
+    room-settings : (b : Bool) → pick b (roomed p) p .settings ≡ p .settings
+    room-settings true = refl
+    room-settings false = refl
+
+    -- what is left then is what the record leaves
+    pub played : (g g′ : Head) (u access write : List ℕ) → poolIn g u access write ≡ entered q (r .row) page kind → g′ ≡ movedTo (headOf p) g
+        → Leaves (recordOf p page kind) at (record { row = r .row; head = g′ }) u access write before after
+    played g g′ u access write h x =
+        let k = worked-is p (told p s) z page kind w e in
+        let kept = ap (λ (y : Pool). y .settings) h ∙ entered-settings q (r .row) page kind ∙ ap (λ (y : Pool). y .settings) (m .pool) ∙ room-settings (wanted p w) in
+        record {
+          effect = row-and-pool (r .row) (recordOf p page kind .row) (poolIn g′ u access write) (recordOf p page kind .pool) (m .row ∙ k .row)
+              (ap (λ (y : Head). poolIn y u access write) (x ∙ moved-on p g kept) ∙ h ∙ rw (m .pool, m .row) (k .pool));
+          list = m .list ∙ ap (sets before at) (k .written);
+        }

@@ -1,30 +1,32 @@
 -- What the functions of the code say of themselves. Who reads the rules passes this over.
--- `worked-settled` and `worked-roomed` in proofs/ show that settling, making room and entering is `recordOf`.
-use Prim.Native.Nat.{ℕ, _+_, _≤_, zero, suc, _-_, _*_, _<_}
+-- `worked-is` in proofs/ shows that settling, making room and entering is `recordOf`.
+use Prim.Native.Nat.{ℕ, zero, suc, _+_, _-_, _*_, _≤_, _<_}
 use mathlib.Core.Path.{_≡_}
-use mathlib.Core.Bool.{true, Bool, false, _&&_, _||_, not}
+use mathlib.Core.Bool.{Bool, true, false, _&&_, _||_, not}
 use mathlib.Core.List.{List, []}
 use lib.ListN.{length, set}
 use lib.Seq.{sets}
-use Rattle.pool.specs.declared.Pool.{Pool}
-use Rattle.pool.specs.Sound.{soundPool}
-use Rattle.table.specs.Table.{poolIn}
-use Rattle.tally.specs.declared.Row.{Row}
-use Rattle.effect.specs.declared.Worked.{Worked}
-use Rattle.effect.specs.Record.{Did, pinLimit}
 use lib.Dec.{eqb, leb}
 use Rattle.search.specs.declared.Found.{Found}
 use Rattle.search.specs.declared.Found.the-variants.{At}
-use Rattle.search.specs.Search.{pick, onFound, oneIf}
+use Rattle.search.specs.Search.{pick, onFound}
 use Rattle.refusal.specs.Refusals.{badField, noReferenceLeft, noFrame, notPinned, pinsFull}
 use Rattle.pool.specs.declared.Frame.{Frame}
+use Rattle.pool.specs.declared.Pool.{Pool}
 use Rattle.pool.specs.Pool.{referenceLimit, accessRoom, writeRoom, frameAt, nowOf}
+use Rattle.pool.specs.Sound.{soundPool}
+use Rattle.table.specs.declared.Head.{Head}
+use Rattle.table.specs.Table.{poolIn}
+use Rattle.reference.specs.ForCode.{RestZero}
 use Rattle.reference.specs.Logs.{cleared, lengthWith, logWith}
-use Rattle.reference.specs.Reference.{raised, withPins}
+use Rattle.reference.specs.Reference.{raised, withPins, unpinnedAt}
 use Rattle.victim.specs.Choice.{leftBy}
 use Rattle.victim.specs.Rules.{choiceOf}
 use Rattle.batch.specs.Batch.{batchOf, cleaned, pagesOf}
+use Rattle.tally.specs.declared.Row.{Row}
 use Rattle.tally.specs.Rows.{row, hit, missUnused, missClean, missDirty, unpinned, refusedRow}
+use Rattle.effect.specs.declared.Worked.{Worked}
+use Rattle.effect.specs.Record.{Did, pinLimit}
 
 -- row and pool
 pub record Effect : Type 0 where
@@ -107,6 +109,34 @@ pub record RoomMade (p : Pool) (at : ℕ) (r : Worked) (t before after : List �
   pub list : after ≡ sets before at (roomPages p)
   pub frame : r .row .frame < 128
 
+-- with a settled row: room is made where a victim is wanted
+module _ (p : Pool) (w : Row) where
+  abbrev pub wanted : Bool
+  wanted = eqb (w .outcome) missClean
+
+  -- the row then, the pages written, and the pool with room
+  abbrev pub rowWhere : Row
+  rowWhere = pick wanted (roomRow p) w
+
+  abbrev pub pagesWhere : List ℕ
+  pagesWhere = pick wanted (roomPages p) []
+
+  abbrev pub poolWhere : Pool
+  poolWhere = pick wanted (roomed p) p
+
+-- a sound pool, a row in a frame, and as many places from `at` on as pages are written
+pub record RoomAsked (p : Pool) (w : Row) (at places : ℕ) : Type 0 where
+  pub sound : soundPool p ≡ true
+  pub frame : w .frame < 128
+  pub room : at + length (pagesWhere p w) ≤ places
+
+-- what is left then
+pub record RoomWhere (p : Pool) (w : Row) (at : ℕ) (r : Worked) (t before after : List ℕ) : Type 0 where
+  pub row : r .row ≡ rowWhere p w
+  pub pool : poolIn (r .head) t (p .access) (p .write) ≡ poolWhere p w
+  pub list : after ≡ sets before at (pagesWhere p w)
+  pub frame : r .row .frame < 128
+
 -- one pin more where it is asked for and the count is not full
 abbrev pub pinsWith : Bool → ℕ → ℕ
 pinsWith pin n = pick (pin && not (eqb n pinLimit)) (n + 1) n
@@ -128,6 +158,43 @@ hitFrame fr kind cap k = record {
 abbrev pub fetchedFrame : ℕ → ℕ → ℕ → Frame
 fetchedFrame page kind k = record { used = true; page = page; dirty = eqb kind 1; pins = pinsWith (eqb kind 2) 0; count = 1; last = k; accesses = 0; writes = 0 }
 
+-- a frame that is unpinned
+abbrev pub unpinnedFrame : Frame → Frame
+unpinnedFrame fr = withPins fr (fr .pins - 1)
+
+-- one reference more
+abbrev pub withStep : Head → Head
+withStep h = record { settings = h .settings; k = h .k + 1; hand = h .hand; sampler = h .sampler }
+
+-- a head that moved on: the settings stay
+abbrev pub movedTo : Head → Head → Head
+movedTo h g = record { settings = h .settings; k = g .k; hand = g .hand; sampler = g .sampler }
+
+-- a frame with logs of other lengths
+abbrev pub withLengths : Frame → ℕ → ℕ → Frame
+withLengths fr n m = record { used = fr .used; page = fr .page; dirty = fr .dirty; pins = fr .pins; count = fr .count; last = fr .last; accesses = n; writes = m }
+
+-- a reference in frame i: what becomes of the frame, and of the logs
+abbrev pub enteredAt : Pool → ℕ → Frame → List ℕ → List ℕ → Bool → Pool
+enteredAt p i fr access write on = record {
+  settings = p .settings;
+  k = p .k + 1;
+  hand = p .hand;
+  sampler = p .sampler;
+  frames = set (p .frames) i (withLengths fr (lengthWith access (i * accessRoom) accessRoom (fr .accesses) (nowOf p) true) (lengthWith write (i * writeRoom) writeRoom (fr .writes) (nowOf p) on));
+  access = logWith access (i * accessRoom) accessRoom (fr .accesses) (nowOf p) true;
+  write = logWith write (i * writeRoom) writeRoom (fr .writes) (nowOf p) on;
+}
+
+-- a hit in frame i, in place
+unfoldable pub hitIn : Pool → ℕ → ℕ → Pool
+hitIn p i kind = enteredAt p i (hitFrame (frameAt (p .frames) i) kind (p .settings .cap) (p .k)) (p .access) (p .write) (eqb kind 1)
+
+-- a page fetched into frame i, in place
+unfoldable pub fetchedIn : Pool → ℕ → ℕ → ℕ → Pool
+fetchedIn p i page kind =
+    enteredAt p i (fetchedFrame page kind (p .k)) (cleared (p .access) (i * accessRoom) accessRoom) (cleared (p .write) (i * writeRoom) writeRoom) (eqb kind 1)
+
 -- by outcome: a hit, a miss, an unpin, or a refusal
 abbrev pub byOutcome {ℓ} : {A : Type ℓ} → ℕ → A → A → A → A → A
 byOutcome zero hit miss unpin none = hit
@@ -137,57 +204,18 @@ byOutcome (suc (suc (suc zero))) hit miss unpin none = miss
 byOutcome (suc (suc (suc (suc zero)))) hit miss unpin none = unpin
 byOutcome (suc (suc (suc (suc (suc n))))) hit miss unpin none = none
 
--- the frame of a record with that outcome, but for its logs
-unfoldable pub enteringFrame : Frame → ℕ → ℕ → ℕ → ℕ → ℕ → Frame
-enteringFrame fr outcome page kind cap k = byOutcome outcome (hitFrame fr kind cap k) (fetchedFrame page kind k) (withPins fr (fr .pins - 1)) fr
-
--- an accepted reference
-abbrev pub refers : ℕ → Bool
-refers outcome = leb outcome missDirty
-
--- whose page is fetched
-abbrev pub fetches : ℕ → Bool
-fetches outcome = leb missUnused outcome && leb outcome missDirty
-
--- a log's places, cleared where its page is fetched
-abbrev pub clearedWhere : Bool → List ℕ → ℕ → ℕ → List ℕ
-clearedWhere on a at n = pick on (cleared a at n) a
-
--- a frame with logs of other lengths
-abbrev pub withLengths : Frame → ℕ → ℕ → Frame
-withLengths fr n m = record { used = fr .used; page = fr .page; dirty = fr .dirty; pins = fr .pins; count = fr .count; last = fr .last; accesses = n; writes = m }
-
--- frame i and its logs, changed in place
-abbrev pub enteredAt : Pool → ℕ → Frame → Bool → Bool → Bool → Pool
-enteredAt p i fr fetch refer write = record {
-  settings = p .settings;
-  k = p .k + oneIf refer;
-  hand = p .hand;
-  sampler = p .sampler;
-  frames = set (p .frames) i (withLengths fr
-      (lengthWith (clearedWhere fetch (p .access) (i * accessRoom) accessRoom) (i * accessRoom) accessRoom (fr .accesses) (nowOf p) refer)
-      (lengthWith (clearedWhere fetch (p .write) (i * writeRoom) writeRoom) (i * writeRoom) writeRoom (fr .writes) (nowOf p) write));
-  access = logWith (clearedWhere fetch (p .access) (i * accessRoom) accessRoom) (i * accessRoom) accessRoom (fr .accesses) (nowOf p) refer;
-  write = logWith (clearedWhere fetch (p .write) (i * writeRoom) writeRoom) (i * writeRoom) writeRoom (fr .writes) (nowOf p) write;
-}
-
 -- a record with that row
 unfoldable pub entered : Pool → Row → ℕ → ℕ → Pool
-entered p w page kind =
-    enteredAt p (w .frame) (enteringFrame (frameAt (p .frames) (w .frame)) (w .outcome) page kind (p .settings .cap) (p .k))
-    (fetches (w .outcome)) (refers (w .outcome)) (refers (w .outcome) && eqb kind 1)
+entered p w page kind = byOutcome (w .outcome) (hitIn p (w .frame) kind) (fetchedIn p (w .frame) page kind) (unpinnedAt p (w .frame)) p
 
 -- what entering asks: a frame, an epoch length and a cap in range, and that k can rise
-pub record Enterable (p : Pool) (w : Row) : Type 0 where
-  pub frame : w .frame < 128
+pub record Enterable (p : Pool) (i : ℕ) : Type 0 where
+  pub frame : i < 128
   pub epoch : 0 < p .settings .epoch
   pub cap : p .settings .cap ≤ 7
   pub few : p .k ≤ referenceLimit
 
--- the row, and the pool when its record has been entered
-abbrev pub workedOf : Pool → Row → ℕ → ℕ → Effect
-workedOf p w page kind = record { row = w; pool = entered p w page kind }
-
--- a record where a victim is wanted
-abbrev pub fullOf : Pool → ℕ → ℕ → Effect
-fullOf p page kind = workedOf (roomed p) (roomRow p) page kind
+-- and of a hit, that the places past its logs' entries are zero
+pub record LogsEnd (p : Pool) (i : ℕ) : Type 0 where
+  pub access : RestZero (p .access) (i * accessRoom) accessRoom (frameAt (p .frames) i .accesses)
+  pub write : RestZero (p .write) (i * writeRoom) writeRoom (frameAt (p .frames) i .writes)

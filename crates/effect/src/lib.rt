@@ -2,19 +2,19 @@
 use pool::Frame;
 use search::Found;
 use table::Head;
+use table::Table;
 use tally::Row;
 ghost use mathlib.Core.Path.{_≡_};
 ghost use mathlib.Core.Bool.{true};
-ghost use Prim.Native.Nat.{_+_, _-_, _<_, _≤_};
-ghost use lib.ListN.{length};
-ghost use lib.Seq.{sets};
+ghost use Prim.Native.Nat.{_+_, _<_, _≤_};
+ghost use lib.ListN.{length, set};
 ghost use Rattle.search.specs.Search.{pick};
+ghost use Rattle.pool.specs.Pool.{referenceLimit, frameAt};
 ghost use Rattle.pool.specs.Sound.{soundPool};
-ghost use Rattle.table.specs.Table.{poolIn};
-ghost use Rattle.reference.specs.Reference.{withPins};
-ghost use Rattle.tally.specs.Rows.{row, missClean, missDirty};
+ghost use Rattle.table.specs.Table.{framesIn, poolIn};
+ghost use Rattle.tally.specs.Rows.{row, hit, missClean, missDirty};
 ghost use Rattle.effect.specs.Record.{recordOf};
-ghost use Rattle.effect.specs.ForCode.{effectIn, Leaves, Plays, settledHit, settledMiss, settledReference, settledUnpin, settledBy, placeOf, roomPages, RoomMade, Framed, pinsWith, hitFrame, fetchedFrame, enteringFrame, Enterable, entered, fullOf};
+ghost use Rattle.effect.specs.ForCode.{Leaves, Plays, settledHit, settledMiss, settledReference, settledUnpin, settledBy, placeOf, roomPages, RoomMade, RoomAsked, RoomWhere, Framed, pinsWith, hitFrame, fetchedFrame, unpinnedFrame, withStep, movedTo, Enterable, LogsEnd, hitIn, fetchedIn, entered};
 
 // A record's row, and settings, k, hand and sampler number afterwards. Frames and logs are changed where they stand.
 pub struct Worked {
@@ -137,7 +137,7 @@ fn leaving_row(fr: Frame, v: usize, batch: usize) -> Row
 // Where a victim is wanted: it is chosen and its batch written, or the record is refused.
 fn make_room<'a>(
     h: Head,
-    table: &mut [u32; 1024],
+    table: &mut Table,
     access: &'a [u32; 1024],
     write: &'a [u32; 512],
     out: &mut [u32],
@@ -205,7 +205,7 @@ fn fetched_frame(page: u32, kind: u16, k: u32) -> Frame
 }
 
 fn unpinned_frame(fr: Frame) -> Frame
-    ensures { λ r. ⌜ r ≡ withPins fr (fr .pins - 1) ⌝ }
+    ensures { λ r. ⌜ r ≡ unpinnedFrame fr ⌝ }
 {
     let mut g = fr;
     if 0 < g.pins {
@@ -214,77 +214,133 @@ fn unpinned_frame(fr: Frame) -> Frame
     g
 }
 
-// The frame of a record with that outcome (a hit, a miss, an unpin, else refused), but for its logs.
-fn entering(fr: Frame, outcome: u32, page: u32, kind: u16, cap: u16, k: u32) -> Frame
-    requires { ⌜ cap ≤ 7 ⌝ }
-    ensures { λ r. ⌜ r ≡ enteringFrame fr outcome page kind cap k ⌝ }
+// One reference more.
+fn counting(h: Head) -> Head
+    requires { ⌜ h .k ≤ referenceLimit ⌝ }
+    ensures { λ r. ⌜ r ≡ withStep h ⌝ }
 {
-    match outcome {
-        0 => hit_frame(fr, kind, cap, k),
-        1..=3 => fetched_frame(page, kind, k),
-        4 => unpinned_frame(fr),
-        _ => fr,
-    }
+    let mut left = h;
+    left.k = h.k + 1;
+    left
 }
 
-// A record with that row, on a pool that has room for it: its frame and logs changed where they stand, and the head then. A refused one, whose row
-// names frame 0, leaves all as it was.
+// A hit in frame i: its frame and logs changed where they stand, and the head then.
+fn enter_hit(
+    h: Head,
+    table: &mut Table,
+    access: &mut [u32; 1024],
+    write: &mut [u32; 512],
+    i: usize,
+    kind: u16,
+) -> Head
+    requires { ⌜ Enterable (poolIn h (now table) (now access) (now write)) i × LogsEnd (poolIn h (now table) (now access) (now write)) i ⌝ }
+    ensures { λ r. ⌜ poolIn r (now (table .exit)) (now (access .exit)) (now (write .exit)) ≡ hitIn (poolIn h (now (table .entry)) (now (access .entry)) (now (write .entry))) i kind ⌝ }
+{
+    let epoch = table::now_of(h);
+    let old = table::frame_at(table, i);
+    let mut fr = hit_frame(old, kind, h.settings.cap, h.k);
+    fr.accesses = reference::enter_access(access, i, fr.accesses, epoch);
+    fr.writes = reference::enter_write(write, i, fr.writes, epoch, kind == 1);
+    table::put(table, i, fr);
+    counting(h)
+}
+
+// A page fetched into frame i, likewise.
+fn enter_fetch(
+    h: Head,
+    table: &mut Table,
+    access: &mut [u32; 1024],
+    write: &mut [u32; 512],
+    i: usize,
+    page: u32,
+    kind: u16,
+) -> Head
+    requires { ⌜ Enterable (poolIn h (now table) (now access) (now write)) i ⌝ }
+    ensures { λ r. ⌜ poolIn r (now (table .exit)) (now (access .exit)) (now (write .exit)) ≡ fetchedIn (poolIn h (now (table .entry)) (now (access .entry)) (now (write .entry))) i page kind ⌝ }
+{
+    let epoch = table::now_of(h);
+    let mut fr = fetched_frame(page, kind, h.k);
+    reference::clear_access(access, i);
+    reference::clear_write(write, i);
+    fr.accesses = reference::enter_access(access, i, 0, epoch);
+    fr.writes = reference::enter_write(write, i, 0, epoch, kind == 1);
+    table::put(table, i, fr);
+    table::note(table, page, i);
+    counting(h)
+}
+
+// An unpin of frame i.
+fn enter_unpin(table: &mut Table, i: usize)
+    requires { ⌜ i < 128 ⌝ }
+    ensures { λ _. ⌜ framesIn (now (table .exit)) ≡ set (framesIn (now (table .entry))) i (unpinnedFrame (frameAt (framesIn (now (table .entry))) i)) ⌝ }
+{
+    let old = table::frame_at(table, i);
+    let fr = unpinned_frame(old);
+    table::put(table, i, fr);
+}
+
+// A record with that row (a hit, a miss, an unpin, else refused), on a pool that has room for it, and the head then. A refused one leaves all
+// as it was.
 pub fn enter(
     h: Head,
-    table: &mut [u32; 1024],
+    table: &mut Table,
     access: &mut [u32; 1024],
     write: &mut [u32; 512],
     row: Row,
     page: u32,
     kind: u16,
 ) -> Head
-    requires { ⌜ Enterable (poolIn h (now table) (now access) (now write)) row ⌝ }
+    requires { ⌜ Enterable (poolIn h (now table) (now access) (now write)) (row .frame) × (row .outcome ≡ hit → LogsEnd (poolIn h (now table) (now access) (now write)) (row .frame)) ⌝ }
     ensures { λ r. ⌜ poolIn r (now (table .exit)) (now (access .exit)) (now (write .exit)) ≡ entered (poolIn h (now (table .entry)) (now (access .entry)) (now (write .entry))) row page kind ⌝ }
 {
-    let refers = row.outcome <= tally::MISS_DIRTY;
-    let fetches = (tally::MISS_UNUSED <= row.outcome) & refers;
-    let writes = refers & (kind == 1);
-    let epoch = table::now_of(h);
-    let at = row.frame as usize;
-    let old = table::frame_at(table, at);
-    let mut fr = entering(old, row.outcome, page, kind, h.settings.cap, h.k);
-    fr.accesses = reference::enter_access(access, at, fr.accesses, epoch, fetches, refers);
-    fr.writes = reference::enter_write(write, at, fr.writes, epoch, fetches, writes);
-    table::put(table, at, fr);
-    let mut left = h;
-    left.k = h.k + tally::one_if(refers);
-    left
-}
-
-// A record where a victim is wanted.
-fn play_full(
-    h: Head,
-    table: &mut [u32; 1024],
-    access: &mut [u32; 1024],
-    write: &mut [u32; 512],
-    page: u32,
-    kind: u16,
-    out: &mut [u32],
-    at: usize,
-) -> Worked
-    requires { ⌜ (soundPool (poolIn h (now table) (now access) (now write)) ≡ true) × (at + length (roomPages (poolIn h (now table) (now access) (now write))) ≤ length (now out)) ⌝ }
-    ensures { λ r. ⌜ (effectIn r (now (table .exit)) (now (access .exit)) (now (write .exit)) ≡ fullOf (poolIn h (now (table .entry)) (now (access .entry)) (now (write .entry))) page kind)
-        × (now (out .exit) ≡ sets (now (out .entry)) at (roomPages (poolIn h (now (table .entry)) (now (access .entry)) (now (write .entry))))) ⌝ }
-{
-    let room = make_room(h, table, access, write, out, at);
-    let row = room.row;
-    let roomy = room.head;
-    let left = enter(roomy, table, access, write, row, page, kind);
-    Worked {
-        row: row,
-        head: left,
+    let i = row.frame as usize;
+    let outcome = row.outcome;
+    match outcome {
+        0 => enter_hit(h, table, access, write, i, kind),
+        1..=3 => enter_fetch(h, table, access, write, i, page, kind),
+        4 => {
+            enter_unpin(table, i);
+            h
+        }
+        _ => h,
     }
 }
 
-// What a record does to a pool, in place: its frames in a table, its logs, and the rest; its written pages go to `out` from `at` on.
+// Where a victim is wanted, room is made; else the row stays as it was settled.
+fn room_where<'a>(
+    h: Head,
+    table: &mut Table,
+    access: &'a [u32; 1024],
+    write: &'a [u32; 512],
+    row: Row,
+    out: &mut [u32],
+    at: usize,
+) -> Worked
+    requires { ⌜ RoomAsked (poolIn h (now table) (now access) (now write)) row at (length (now out)) ⌝ }
+    ensures { λ r. ⌜ RoomWhere (poolIn h (now (table .entry)) (now (access .entry)) (now (write .entry))) row at r (now (table .exit)) (now (out .entry)) (now (out .exit)) ⌝ }
+{
+    if row.outcome == tally::MISS_CLEAN {
+        return make_room(h, table, access, write, out, at);
+    }
+    Worked { row: row, head: h }
+}
+
+// A head that moved on: its settings, which stay, are not copied.
+fn moved(h: Head, next: Head) -> Head
+    ensures { λ r. ⌜ r ≡ movedTo h next ⌝ }
+{
+    let mut left = h;
+    left.k = next.k;
+    left.hand = next.hand;
+    left.sampler = next.sampler;
+    left
+}
+
+// What a record does to a pool, in place: its frames in a table, its logs, and the rest; its written pages go to `out` from `at` on. Each part is
+// called from one place, so that all of it is put into the loop that calls this.
 pub fn play(
     h: Head,
-    table: &mut [u32; 1024],
+    table: &mut Table,
     access: &mut [u32; 1024],
     write: &mut [u32; 512],
     page: u32,
@@ -295,17 +351,19 @@ pub fn play(
     requires { ⌜ Plays (poolIn h (now table) (now access) (now write)) (recordOf (poolIn h (now table) (now access) (now write)) page kind) at (length (now out)) ⌝ }
     ensures { λ r. ⌜ Leaves (recordOf (poolIn h (now (table .entry)) (now (access .entry)) (now (write .entry))) page kind) at r (now (table .exit)) (now (access .exit)) (now (write .exit)) (now (out .entry)) (now (out .exit)) ⌝ }
 {
-    let found = reference::find(table, page);
-    let free = reference::free_for(table, h.settings.frames, found);
+    let n = reference::in_use(table, h.settings.frames);
+    let found = reference::find(table, page, n);
+    let free = reference::lowest_unused(n, h.settings.frames);
     // Where nothing was found these are the pins of frame 0, which are not looked at.
     let old = table::frame_at(table, place_of(found));
-    let row = settle(h.k, found, old.pins, free, kind);
-    if row.outcome == tally::MISS_CLEAN {
-        return play_full(h, table, access, write, page, kind, out, at);
-    }
-    let left = enter(h, table, access, write, row, page, kind);
+    let settled = settle(h.k, found, old.pins, free, kind);
+    let room = room_where(h, table, access, write, settled, out, at);
+    let row = room.row;
+    let roomy = room.head;
+    let left = enter(roomy, table, access, write, row, page, kind);
+    let after = moved(h, left);
     Worked {
         row: row,
-        head: left,
+        head: after,
     }
 }

@@ -9,11 +9,10 @@ use borrow.Author.Tests.{le-leb, lt-leb}
 use Rattle.refusal.specs.Refusals.{noRoom}
 use Rattle.settings.specs.declared.Settings.{Settings}
 use Rattle.settings.specs.Settings.{inRange}
-use Rattle.settings.proofs.Laws.{same-self}
 use Rattle.trace.specs.declared.Summary.{Summary}
 use Rattle.trace.specs.declared.Checked.the-variants.{Accepted, Refused}
 use Rattle.trace.specs.Check.{refusalOf, checkOf, traceOf}
-use Rattle.trace.proofs.Accept.{accepted, accepted-range, refused-is}
+use Rattle.trace.proofs.Accept.{accepted, accepted-range, counts-are, refused-is}
 use Rattle.pool.specs.declared.Opened.{Opened}
 use Rattle.pool.specs.Pool.{freshPool, freshOf}
 use Rattle.pool.specs.Sound.{soundPool}
@@ -21,7 +20,10 @@ use Rattle.pool.proofs.Opening.{fresh-sound}
 use Rattle.tally.specs.declared.Tally.{Tally}
 use Rattle.tally.specs.Tally.{zeroTally, tallyWithin}
 use Rattle.replay.specs.declared.Ended.{Ended}
-use Rattle.replay.specs.Calls.{mayBegin, countsRefusal, countsOf}
+use Rattle.replay.specs.Replay.{Played, replayTo, replayOf}
+use Rattle.replay.specs.Calls.{mayBegin, endedOf}
+use Rattle.replay.specs.ForCode.{Ready}
+use Rattle.replay.proofs.Laws.{replay-none}
 use Rattle.host.specs.Counts.{countsLength, countBytes, freshCounts, hostRefusal, CountsInto}
 
 -- a fresh pool by settings in range
@@ -37,19 +39,25 @@ may-begin : (x : Settings) → inRange x ≡ true → mayBegin (freshPool x) zer
 unfolding mayBegin
 may-begin x r = let s : soundPool (freshPool x) ≡ true = rw (fresh-pool x r) at (fresh-sound x) in rw (s, zero-within)
 
--- nothing refuses an accepted trace from a fresh pool by its own settings
-not-refused : (s : List ℕ) → refusalOf s ≡ 0 → inRange (traceOf s .settings) ≡ true → countsRefusal (freshPool (traceOf s .settings)) zeroTally s ≡ 0
-unfolding countsRefusal freshPool
-not-refused s e r = rw (may-begin (traceOf s .settings) r, e, same-self (traceOf s .settings))
+-- an accepted trace may be replayed from a fresh pool by its own settings
+module _ (s : List ℕ) (h : Summary) (o : Opened) (t : Tally) (a : checkOf s ≡ Accepted h) (x : o ≡ freshOf (h .settings)) (y : t ≡ zeroTally) where
+  opened : o .pool ≡ freshPool (traceOf s .settings)
+  opened = ap (λ (v : Opened). v .pool) x ∙ ap (λ (v : Summary). freshOf (v .settings) .pool) (accepted s h a .1) ∙ fresh-pool (traceOf s .settings) (accepted-range s h a)
 
-pub fresh-counts-are : (s : List ℕ) (h : Summary) (o : Opened) (t : Tally) (e : Ended) → checkOf s ≡ Accepted h → o ≡ freshOf (h .settings) → t ≡ zeroTally → e ≡ countsOf (o .pool) t s
-    → e .tally ≡ freshCounts (traceOf s)
-unfolding freshCounts countsOf
-fresh-counts-are s h o t e a x y z =
-    let k = accepted s h a in
-    let r = accepted-range s h a in
-    let same : o .pool ≡ freshPool (traceOf s .settings) = ap (λ (v : Opened). v .pool) x ∙ ap (λ (v : Summary). freshOf (v .settings) .pool) (k .1) ∙ fresh-pool (traceOf s .settings) r in
-    ap (λ (v : Ended). v .tally) z ∙ rw (same, y, not-refused s (k .0) r)
+  pub fresh-ready : Ready (o .pool) t s h
+  fresh-ready = record { begins = rw (opened, y) (may-begin (traceOf s .settings) (accepted-range s h a)); accepted = a }
+
+  pub fresh-counts-are : (e : Ended) → e ≡ endedOf 0 (o .pool) t (replayOf (o .pool) t (traceOf s)) → e .tally ≡ freshCounts (traceOf s)
+  unfolding freshCounts
+  fresh-counts-are e z = ap (λ (v : Ended). v .tally) z ∙ rw (opened, y)
+
+-- with no record every count is 0
+pub none-counted : (s : List ℕ) (h : Summary) (t : Tally) → checkOf s ≡ Accepted h → h .count ≡ 0 → t ≡ zeroTally → t ≡ freshCounts (traceOf s)
+unfolding freshCounts
+none-counted s h t a e y =
+    let p = freshPool (traceOf s .settings) in
+    let n : length (traceOf s .pages) ≡ 0 = counts-are s h a .0 ∙ e in
+    y ∙ sym (ap (λ (k : ℕ). replayTo p zeroTally (traceOf s) k .tally) n ∙ ap (λ (r : Played). r .tally) (replay-none p zeroTally (traceOf s)))
 
 -- the calls
 module _ (s out : List ℕ) where

@@ -46,15 +46,18 @@ fn put_tally(out: &mut [u8], order: Order, t: Tally)
     word::put32(out, 20, order, t.refused);
 }
 
-// The counts of an accepted trace from a fresh pool, which replay does not refuse.
+// The counts of an accepted trace from a fresh pool, which is sound: neither is checked again. With no record no pool is made.
 fn fresh_counts(bytes: &[u8], summary: Summary) -> Tally
     requires { ⌜ checkOf (now bytes) ≡ Checked.Accepted summary ⌝ }
     ensures { λ r. ⌜ r ≡ freshCounts (traceOf (now (bytes .entry))) ⌝ }
 {
+    if summary.count == 0 {
+        return tally::zero();
+    }
     let settings = summary.settings;
     let opened = pool::fresh(settings);
     let fresh = opened.pool;
-    let ended = replay::counts(fresh, tally::zero(), bytes);
+    let ended = replay::count(fresh, tally::zero(), bytes, summary);
     ended.tally
 }
 

@@ -5,5 +5,5 @@ pub mod Ready
 pub mod Keeps
 pub mod Others
 pub mod Referred
-pub mod Lowest
-pub mod Free
+pub mod InUse
+pub mod Resident

@@ -96,7 +96,7 @@ fn dirty_frames(p: Pool) -> u32
     let mut i: usize = 0;
     while i < 128 {
         let fr = p.frames[i];
-        n = n + tally::one_if(fr.dirty);
+        n = n + search::one_if(fr.dirty);
         i += 1;
     }
     n
@@ -150,8 +150,9 @@ fn run(
     ending(0, left, t)
 }
 
-// Every record of an accepted trace, counted only: the pages of one batch are written over those of the one before.
-fn count(pool: Pool, tally: Tally, bytes: &[u8], summary: Summary) -> Ended
+// Every record of an accepted trace, counted only: the pages of one batch are written over those of the one before. Who has checked pool,
+// tally and trace calls it at once.
+pub fn count(pool: Pool, tally: Tally, bytes: &[u8], summary: Summary) -> Ended
     requires { ⌜ Ready pool tally (now bytes) summary ⌝ }
     ensures { λ r. ⌜ r ≡ endedOf 0 pool tally (replayOf pool tally (traceOf (now (bytes .entry)))) ⌝ }
 {

@@ -4,9 +4,10 @@ use mathlib.Core.Bool.{Bool, true, false, true≢false}
 use mathlib.Core.Logic.{⊎-elim}
 use lib.Dec.{ltb}
 use borrow.Author.Tests.{ltb-true, ltb-false, lt-ltb, le-ltb}
-use Prim.Native.Nat.{ℕ, zero, suc, _+_, _-_, _<_}
+use Prim.Native.Nat.{ℕ, zero, suc, _+_, _-_, _≤_, _<_}
 use native.Mathlib.Omega.{arith}
 use native.Mathlib.Numerals.{add-one}
+use native.Mathlib.Decide.{ℕ-discrete}
 use native.Mathlib.Nat.{zero-add, suc-add, not-suc-le-zero, eq-or-lt-of-le, le-of-suc-le-suc}
 use Rattle.search.specs.declared.Found.{Found}
 use Rattle.search.specs.declared.Found.the-variants.{At, Nothing}
@@ -112,6 +113,14 @@ least-none ok less (suc n) j h l =
 pub least-none-of : (ok : ℕ → Bool) (less : ℕ → ℕ → Bool) (n : ℕ) → ((j : ℕ) → j < n → ok j ≡ false) → leastBelow ok less n ≡ Nothing
 least-none-of ok less zero f = least-zero ok less
 least-none-of ok less (suc n) f = least-suc ok less n ∙ rw (f n (omega arith)) (least-none-of ok less n (λ j l. f j (omega arith)))
+
+-- where none from n on passes, looking further finds nothing else
+pub least-rest : (ok : ℕ → Bool) (less : ℕ → ℕ → Bool) (n m : ℕ) → n ≤ m → ((j : ℕ) → n ≤ j → j < m → ok j ≡ false) → leastBelow ok less m ≡ leastBelow ok less n
+least-rest ok less n zero l f = ap (leastBelow ok less) (omega arith)
+least-rest ok less n (suc m) l f = elim (ℕ-discrete n (suc m)) [
+  | yes e ↦ ap (leastBelow ok less) (sym e)
+  | no e ↦ ap (leastBelow ok less) (sym (add-one m)) ∙ least-skip ok less m (f m (omega (arith, e)) (omega arith)) ∙ least-rest ok less n m (omega (arith, e)) (λ j a b. f j a (omega arith))
+]
 
 -- tests that agree below the bound, and orders that agree on what passes, find the same
 pub least-cong-on : (ok ok′ : ℕ → Bool) (less less′ : ℕ → ℕ → Bool) (n : ℕ)

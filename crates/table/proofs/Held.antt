@@ -3,7 +3,7 @@ use mathlib.Core.Path.{_≡_, refl, ap, sym, _∙_}
 use mathlib.Core.Bool.{Bool, true, false}
 use mathlib.Core.Logic.{_≢_}
 use mathlib.Core.List.{List, [], _∷_}
-use Prim.Native.Nat.{ℕ, zero, suc, _+_, _<_}
+use Prim.Native.Nat.{ℕ, zero, suc, _+_, _≤_, _<_}
 use native.Mathlib.Omega.{arith}
 use native.Mathlib.Nat.{mod-eq-of-lt}
 use native.Mathlib.Decide.{ℕ-discrete}
@@ -66,7 +66,7 @@ pub record Fits (fr : Frame) : Type 0 where
   pub accesses : fr .accesses < 256
   pub writes : fr .writes < 256
 
-module _ (t : List ℕ) (i : ℕ) (l : i < 128) (n : length t ≡ 1024) where
+module _ (t : List ℕ) (i : ℕ) (l : i < 128) (n : length t ≡ 2048) where
   -- all eight numbers
   pub put-held : (fr : Frame) (u d : ℕ) → Fits fr → u ≡ oneIf (fr .used) → d ≡ oneIf (fr .dirty)
       → framesIn (stores t i (u ∷ fr .page ∷ d ∷ fr .pins ∷ fr .count ∷ fr .last ∷ fr .accesses ∷ fr .writes ∷ []) 0) ≡ set (framesIn t) i fr
@@ -118,6 +118,24 @@ module _ (t : List ℕ) (i : ℕ) (l : i < 128) (n : length t ≡ 1024) where
       changed t (stores t i (0 ∷ []) 2) i (withDirty (frameAt (framesIn t) i) false) l
       (rw (held t 128 i l, r 0 (λ e. omega arith), r 1 (λ e. omega arith), own-one 2 0 (omega arith), r 3 (λ e. omega arith), r 4 (λ e. omega arith), r 5 (λ e. omega arith), r 6 (λ e. omega arith), r 7 (λ e. omega arith)))
       (λ j m q. others-held t (0 ∷ []) 2 i j l m q)
+
+-- what stands behind the frames is read by none
+pub behind : (t : List ℕ) (at v n : ℕ) → 1024 ≤ at → n ≤ 128 → framesTo (set t at v) n ≡ framesTo t n
+unfolding framesTo frameIn
+behind t at v zero l m = refl
+behind t at v (suc n) l m =
+    let o : (d : ℕ) → d < 1024 → getD (set t at v) d 0 ≡ getD t d 0 = λ d b. getD-set-other t at d v 0 (λ e. omega arith) in
+    rw (
+      behind t at v n l (omega arith),
+      o n (omega arith),
+      o (n + 128) (omega arith),
+      o (n + 256) (omega arith),
+      o (n + 384) (omega arith),
+      o (n + 512) (omega arith),
+      o (n + 640) (omega arith),
+      o (n + 768) (omega arith),
+      o (n + 896) (omega arith),
+    )
 
 -- the first i frames of a list are those of another
 pub Filled : List Frame → List Frame → ℕ → Type 0

@@ -1,4 +1,4 @@
--- A pool's frames as a table of numbers: eight to a frame, field after field.
+-- A pool's frames as a table of numbers: eight to a frame, field after field; then guesses at the frames of pages, which no frame reads.
 use Prim.Native.Nat.{ℕ, zero, suc, _+_, _%_}
 use mathlib.Core.List.{List, [], _∷_, _++_}
 use lib.ListN.{getD}
@@ -28,6 +28,13 @@ framesTo t (suc n) = framesTo t n ++ (frameIn t n ∷ [])
 -- all of them
 abbrev pub framesIn : List ℕ → List Frame
 framesIn t = framesTo t 128
+
+-- where the guess at a page's frame stands, and the frame that it names
+abbrev pub guessPlace : ℕ → ℕ
+guessPlace page = 1024 + page % 1024
+
+abbrev pub guessIn : List ℕ → ℕ → ℕ
+guessIn t page = getD t (guessPlace page) 0 % 128
 
 -- what a pool holds beside its frames and logs
 abbrev pub headOf : Pool → Head

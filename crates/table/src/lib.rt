@@ -1,4 +1,5 @@
 // A pool's frames as one table of numbers that can be lent, which a struct cannot: field after field, so that a search goes through one field.
+// Behind them it has room for guesses at where a page is, which no frame reads.
 use pool::Frame;
 use pool::Pool;
 use settings::Settings;
@@ -6,9 +7,11 @@ ghost use mathlib.Core.Path.{_≡_};
 ghost use mathlib.Core.Bool.{false};
 ghost use Prim.Native.Nat.{_%_, _<_};
 ghost use lib.ListN.{length, set};
-ghost use Rattle.search.specs.Search.{oneIf};
 ghost use Rattle.pool.specs.Pool.{frameAt, withCount, nowAt, withDirty};
-ghost use Rattle.table.specs.Table.{framesIn, headOf, poolIn};
+ghost use Rattle.table.specs.Table.{framesIn, guessPlace, guessIn, headOf, poolIn};
+
+// Eight numbers to a frame, then 1,024 guesses.
+pub type Table = [u32; 2048];
 
 // What a pool holds beside its frames and logs.
 pub struct Head {
@@ -46,15 +49,8 @@ fn byte(n: u32) -> u8
     (n % 256) as u8
 }
 
-// A flag as a number.
-fn bit(such: bool) -> u32
-    ensures { λ r. ⌜ r ≡ oneIf such ⌝ }
-{
-    if such { 1 } else { 0 }
-}
-
 // Frame i.
-pub fn frame_at(table: &[u32; 1024], i: usize) -> Frame
+pub fn frame_at(table: &Table, i: usize) -> Frame
     requires { ⌜ i < 128 ⌝ }
     ensures { λ r. ⌜ r ≡ frameAt (framesIn (now (table .entry))) i ⌝ }
 {
@@ -72,12 +68,12 @@ pub fn frame_at(table: &[u32; 1024], i: usize) -> Frame
 
 // Frame i becomes another. What stores is lent a slice, since of a lent array the prover is not told the length.
 pub fn put(table: &mut [u32], i: usize, fr: Frame)
-    requires { ⌜ (i < 128) × (length (now table) ≡ 1024) ⌝ }
+    requires { ⌜ (i < 128) × (length (now table) ≡ 2048) ⌝ }
     ensures { λ _. ⌜ framesIn (now (table .exit)) ≡ set (framesIn (now (table .entry))) i fr ⌝ }
 {
-    table[i] = bit(fr.used);
+    table[i] = search::one_if(fr.used);
     table[i + 128] = fr.page;
-    table[i + 256] = bit(fr.dirty);
+    table[i + 256] = search::one_if(fr.dirty);
     table[i + 384] = fr.pins as u32;
     table[i + 512] = fr.count as u32;
     table[i + 640] = fr.last;
@@ -87,7 +83,7 @@ pub fn put(table: &mut [u32], i: usize, fr: Frame)
 
 // Frame i gets another clock count.
 pub fn put_count(table: &mut [u32], i: usize, n: u8)
-    requires { ⌜ (i < 128) × (length (now table) ≡ 1024) ⌝ }
+    requires { ⌜ (i < 128) × (length (now table) ≡ 2048) ⌝ }
     ensures { λ _. ⌜ framesIn (now (table .exit)) ≡ set (framesIn (now (table .entry))) i (withCount (frameAt (framesIn (now (table .entry))) i) n) ⌝ }
 {
     table[i + 512] = n as u32;
@@ -95,17 +91,32 @@ pub fn put_count(table: &mut [u32], i: usize, n: u8)
 
 // Frame i becomes clean.
 pub fn clean(table: &mut [u32], i: usize)
-    requires { ⌜ (i < 128) × (length (now table) ≡ 1024) ⌝ }
+    requires { ⌜ (i < 128) × (length (now table) ≡ 2048) ⌝ }
     ensures { λ _. ⌜ framesIn (now (table .exit)) ≡ set (framesIn (now (table .entry))) i (withDirty (frameAt (framesIn (now (table .entry))) i) false) ⌝ }
 {
     table[i + 256] = 0;
 }
 
+// The frame that was last noted for a page, or for another page with the same place: a guess, which whoever asks has to try.
+pub fn guess(table: &Table, page: u32) -> usize
+    ensures { λ r. ⌜ (r ≡ guessIn (now (table .entry)) page) × (r < 128) ⌝ }
+{
+    (table[1024 + (page % 1024) as usize] % 128) as usize
+}
+
+// Notes that a page is in frame i. The frames stay as they are.
+pub fn note(table: &mut [u32], page: u32, i: usize)
+    requires { ⌜ (i < 128) × (length (now table) ≡ 2048) ⌝ }
+    ensures { λ _. ⌜ (now (table .exit) ≡ set (now (table .entry)) (guessPlace page) i) × (framesIn (now (table .exit)) ≡ framesIn (now (table .entry))) ⌝ }
+{
+    table[1024 + (page % 1024) as usize] = i as u32;
+}
+
 // The table of a pool's frames.
-pub fn table_of(p: Pool) -> [u32; 1024]
+pub fn table_of(p: Pool) -> Table
     ensures { λ r. ⌜ framesIn r ≡ p .frames ⌝ }
 {
-    let mut table = [0u32; 1024];
+    let mut table = [0u32; 2048];
     let mut i: usize = 0;
     while i < 128 {
         let fr = p.frames[i];
@@ -116,7 +127,7 @@ pub fn table_of(p: Pool) -> [u32; 1024]
 }
 
 // The frames that a table holds.
-fn frames_of(table: &[u32; 1024]) -> [Frame; 128]
+fn frames_of(table: &Table) -> [Frame; 128]
     ensures { λ r. ⌜ r ≡ framesIn (now (table .entry)) ⌝ }
 {
     // Any frame would do: each is stored anew.
@@ -131,7 +142,7 @@ fn frames_of(table: &[u32; 1024]) -> [Frame; 128]
 }
 
 // The pool of a head, a table of frames, and the logs.
-pub fn pool_of(h: Head, table: &[u32; 1024], access: [u32; 1024], write: [u32; 512]) -> Pool
+pub fn pool_of(h: Head, table: &Table, access: [u32; 1024], write: [u32; 512]) -> Pool
     ensures { λ r. ⌜ r ≡ poolIn h (now (table .entry)) access write ⌝ }
 {
     let s = h.settings;

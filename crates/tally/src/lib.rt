@@ -3,7 +3,6 @@ ghost use mathlib.Core.Path.{_≡_};
 ghost use Prim.Native.Nat.{_+_, _≤_};
 ghost use lib.ListN.{length};
 ghost use lib.Seq.{sets};
-ghost use Rattle.search.specs.Search.{oneIf};
 ghost use Rattle.tally.specs.Rows.{rowNumbers, refusedRow};
 ghost use Rattle.tally.specs.Tally.{countedBy, tallyWithin, zeroTally};
 ghost use Rattle.tally.specs.ForCode.{Countable};
@@ -65,13 +64,6 @@ pub fn within(t: Tally) -> bool
                     & ((t.written <= TALLY_LIMIT) & (t.refused <= TALLY_LIMIT)))))
 }
 
-// 1 where it is such, else 0.
-pub fn one_if(such: bool) -> u32
-    ensures { λ r. ⌜ (r ≡ oneIf such) × (r ≤ 1) ⌝ }
-{
-    if such { 1 } else { 0 }
-}
-
 // The tally after one more row: pins count as hits or misses, unpins as neither.
 pub fn counted(t: Tally, row: Row) -> Tally
     requires { ⌜ Countable t row ⌝ }
@@ -80,12 +72,12 @@ pub fn counted(t: Tally, row: Row) -> Tally
     let outcome = row.outcome;
     let pages = row.batch;
     Tally {
-        hits: t.hits + one_if(outcome == HIT),
-        misses: t.misses + one_if((MISS_UNUSED <= outcome) & (outcome <= MISS_DIRTY)),
-        evictions: t.evictions + one_if((MISS_CLEAN <= outcome) & (outcome <= MISS_DIRTY)),
-        batches: t.batches + one_if(outcome == MISS_DIRTY),
+        hits: t.hits + search::one_if(outcome == HIT),
+        misses: t.misses + search::one_if((MISS_UNUSED <= outcome) & (outcome <= MISS_DIRTY)),
+        evictions: t.evictions + search::one_if((MISS_CLEAN <= outcome) & (outcome <= MISS_DIRTY)),
+        batches: t.batches + search::one_if(outcome == MISS_DIRTY),
         written: t.written + pages,
-        refused: t.refused + one_if(REFUSED <= outcome),
+        refused: t.refused + search::one_if(REFUSED <= outcome),
     }
 }
 

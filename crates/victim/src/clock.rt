@@ -3,6 +3,7 @@ use crate::Chosen;
 use pool::Frame;
 use search::Found;
 use table::Head;
+use table::Table;
 ghost use mathlib.Core.Path.{_≡_};
 ghost use mathlib.Core.Bool.{true};
 ghost use Prim.Native.Nat.{_<_, _≤_};
@@ -39,12 +40,7 @@ fn next_hand(h: usize, f: usize) -> usize
 }
 
 // The sweep: from the hand on until it rests, and then one past. With no unpinned frame it would not end. The logs are here for the contract.
-fn sweep<'a>(
-    h: Head,
-    table: &mut [u32; 1024],
-    access: &'a [u32; 1024],
-    write: &'a [u32; 512],
-) -> Chosen
+fn sweep<'a>(h: Head, table: &mut Table, access: &'a [u32; 1024], write: &'a [u32; 512]) -> Chosen
     requires { ⌜ (soundPool (poolIn h (now table) (now access) (now write)) ≡ true) × (someUnpinned (poolIn h (now table) (now access) (now write)) ≡ true) ⌝ }
     ensures { λ r. ⌜ choiceIn r (now (table .exit)) ≡ sweptChoice (poolIn h (now (table .entry)) (now (access .entry)) (now (write .entry))) ⌝ }
 {
@@ -68,7 +64,7 @@ fn sweep<'a>(
 }
 
 // The lowest unpinned frame below f.
-fn any_unpinned(table: &[u32; 1024], f: usize) -> Found
+fn any_unpinned(table: &Table, f: usize) -> Found
     requires { ⌜ f ≤ 128 ⌝ }
     ensures { λ r. ⌜ r ≡ anyUnpinned (framesIn (now (table .entry))) f ⌝ }
 {
@@ -86,7 +82,7 @@ fn any_unpinned(table: &[u32; 1024], f: usize) -> Found
 // The victim of the sweep, or none and nothing changed where every frame is pinned.
 pub fn choose<'a>(
     h: Head,
-    table: &mut [u32; 1024],
+    table: &mut Table,
     access: &'a [u32; 1024],
     write: &'a [u32; 512],
 ) -> Chosen

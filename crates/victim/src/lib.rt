@@ -5,6 +5,7 @@ pub mod watt;
 
 use search::Found;
 use table::Head;
+use table::Table;
 ghost use mathlib.Core.Path.{_≡_};
 ghost use mathlib.Core.Bool.{true};
 ghost use Rattle.pool.specs.Sound.{soundPool};
@@ -22,7 +23,7 @@ pub struct Chosen {
 // What the pool's own rule chooses.
 pub fn choose<'a>(
     h: Head,
-    table: &mut [u32; 1024],
+    table: &mut Table,
     access: &'a [u32; 1024],
     write: &'a [u32; 512],
 ) -> Chosen

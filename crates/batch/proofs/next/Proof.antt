@@ -5,13 +5,13 @@ use mathlib.Core.Logic.{⊎-elim}
 use native.Mathlib.Omega.{arith}
 use lib.ListN.{getD}
 use Rattle.victim.proofs.watt.Turns.{Best, best-none, best-skip, best-beat, best-keep}
-use Rattle.batch.specs.ForCode.{rankAt}
+use Rattle.batch.specs.ForCode.{heldValue}
 use borrow.Author.Needs.{needs}
 use Rattle.batch.proofs.next.Statement.{statement}
 use Rattle.batch.proofs.next.Tie as tie
 
 abbrev Inv-loop : tie.InvT-loop
-Inv-loop waiting nums dens f best₀ low₀ i₀ best low i = (i ≤ f) × Best (rankAt nums dens) (λ j. getD waiting j false) i best low
+Inv-loop waiting nums dens f best₀ low₀ i₀ best low i = (i ≤ f) × Best (heldValue nums dens) (λ j. getD waiting j false) i best low
 
 abbrev μ-loop : tie.MeasureT-loop
 μ-loop waiting nums dens f best₀ low₀ i₀ best low i = f - i

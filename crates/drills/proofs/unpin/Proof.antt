@@ -1,3 +1,5 @@
+use native.Mathlib.Omega.{arith}
+use Rattle.drills.proofs.Laws.{other-row}
 use borrow.Author.Needs.{needs}
 use Rattle.drills.proofs.unpin.Statement.{statement}
 use Rattle.drills.proofs.unpin.Tie as tie
@@ -6,12 +8,7 @@ element-copy-out-fr : tie.Need-element-copy-out-fr
 element-copy-out-fr c = c .before .before .enterable .ensures (c .before .if1 .taken) .frame
 
 entered-requires : tie.Need-entered-requires
-entered-requires c κs =
-    let i = c .before .before .before .before .before .before in
-    i .before .enterable .ensures (i .if1 .taken)
+entered-requires c κs = (c .before .before .before .before .before .before .before .enterable .ensures (c .before .before .before .before .before .before .if1 .taken), λ e. absurd (other-row _ _ _ (c .before .before .before .before .before .before .before .before .row-in .ensures) (λ q. omega arith) e))
 
 pub unpin-spec : {M : Type 1} → statement M
-unpin-spec =
-    tie.close
-    (tie.spec (λ c κs. search needs) (λ c κs. search needs) (λ c. search needs) (λ c. search needs) element-copy-out-fr (λ c. search needs) (λ c κs. search needs)
-    entered-requires (λ c. search needs) (λ c κs. search needs) (λ c. search needs))
+unpin-spec = tie.close (tie.spec (λ c κs. search needs) (λ c κs. search needs) (λ c. search needs) (λ c. search needs) element-copy-out-fr (λ c. search needs) (λ c κs. search needs) entered-requires (λ c. search needs) (λ c κs. search needs) (λ c. search needs))

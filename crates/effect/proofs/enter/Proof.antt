@@ -1,42 +1,28 @@
 use native.Mathlib.Omega.{arith}
+use mathlib.Core.Path.{refl}
 use denote.Ref.{now}
+use Rattle.pool.specs.declared.Pool.{Pool}
 use Rattle.table.specs.Table.{poolIn}
-use Rattle.effect.proofs.Placed.{placed-is}
+use Rattle.effect.proofs.Placed.{way-hit, way-fetch, way-unpin, way-none, unpin-left}
 use borrow.Author.Needs.{needs}
 use Rattle.effect.proofs.enter.Statement.{statement}
 use Rattle.effect.proofs.enter.Tie as tie
 
-add-left : tie.Need-add-left
-add-left c =
-    let o = c .before in
-    let a = o .before .before .before .before .before .before .before .before .before .before .before .before .before .before in
-    let one = o .one-if .ensures .1 in
-    let few = a .pre .few in
-    omega arith
+-- the pool
+abbrev pool : tie.Start → Pool
+pool a = poolIn (a .args .h) (now (a .args .table)) (now (a .args .access)) (now (a .args .write))
 
 returns : tie.Need-returns
-returns c =
-    let o = c .before in
-    let p = o .before in
-    let w = p .before .before in
-    let x = w .before .before in
-    let g = x .before .before in
-    let f = g .before in
-    let n = f .before .before .before in
-    let a = n .before .before .before .args in
-    placed-is (poolIn (a .h) (now (a .table)) (now (a .access)) (now (a .write))) (a .row) _ _ _ _ _ _ _ _ _ _ _ (n .now-of .ensures) (f .frame-at .ensures) (g .entering .ensures) (x .enter-access .ensures) (w .enter-write .ensures) (p .put .ensures) (o .one-if .ensures .0)
+returns c = let a = c .before .before .before .before .before .before in way-hit (pool a) _ (a .args .row) _ _ (c .before .before .before .before .match .keys1) (c .enter-hit .ensures)
+
+returns-2 : tie.Need-returns-2
+returns-2 c = let a = c .before .before .before .before in way-unpin (pool a) _ (a .args .row) _ _ (c .before .before .match .keys2) (unpin-left (pool a) _ _ (c .enter-unpin .ensures))
+
+returns-3 : tie.Need-returns-3
+returns-3 c = let a = c .before .before .before .before .before .before .before in way-fetch (pool a) _ (a .args .row) _ _ (omega arith) (omega arith) (c .enter-fetch .ensures)
+
+returns-4 : tie.Need-returns-4
+returns-4 c = let a = c .before .before .before in way-none (pool a) _ (a .args .row) _ _ (omega arith) refl
 
 pub enter-spec : {M : Type 1} → statement M
-enter-spec =
-    tie.close
-    (tie.spec
-    (λ c κs. c .before .before .pre .epoch)
-    (λ c. search needs)
-    (λ c κs. c .before .before .before .before .before .pre .frame)
-    (λ c κs. c .before .before .before .before .before .before .pre .cap)
-    (λ c κs. c .before .before .before .before .before .before .before .before .pre .frame)
-    (λ c κs. c .before .before .before .before .before .before .before .before .before .before .pre .frame)
-    (λ c κs. (c .before .before .before .before .before .before .before .before .before .before .before .before .pre .frame, search needs))
-    (λ c κs. search needs)
-    add-left
-    returns)
+enter-spec = tie.close (tie.spec (λ c. search needs) (λ c κs. (c .before .before .before .before .before .pre .0, c .before .before .before .before .before .pre .1 (c .before .before .before .match .keys1))) (λ c κs. c .before .before .before .pre .0 .frame) (λ c κs. c .before .before .before .before .before .before .pre .0) returns returns-2 returns-3 returns-4)

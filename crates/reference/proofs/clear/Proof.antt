@@ -2,7 +2,7 @@ use Prim.Native.Nat.{_-_, _≤_}
 use mathlib.Core.Path.{_≡_, refl}
 use native.Mathlib.Omega.{arith}
 use lib.ListN.{length, length-set}
-use Rattle.reference.proofs.Logs.{clearedTo, clear-none, clear-more, clear-all}
+use Rattle.reference.proofs.Logs.{clearedTo, clear-none, clear-more, clear-all, clear-rest}
 use borrow.Author.Needs.{needs}
 use Rattle.reference.proofs.clear.Statement.{statement}
 use Rattle.reference.proofs.clear.Tie as tie
@@ -25,7 +25,8 @@ loop-again c =
 returns : tie.Need-returns Inv-loop μ-loop
 returns c =
     let e : c .before .loop .j ≡ c .before .before .args .n = omega arith in
-    clear-all _ _ _ _ (rw e at (c .before .loop .inv .2))
+    let all = clear-all _ _ _ _ (rw e at (c .before .loop .inv .2)) in
+    (all, clear-rest _ _ _ (c .before .before .pre) _ all)
 
 pub clear-spec : {M : Type 1} → statement M
 clear-spec =

@@ -35,7 +35,7 @@ returns : tie.Need-returns
 returns c =
     let d = c .before .before .before .before in
     let a = d .before .before .before in
-    put-held (now (a .args .table)) (a .args .i) (a .pre .0) (a .pre .1) (a .args .fr) _ _ (let k = c .struct-known4 .given in record { pins = omega arith; count = omega arith; accesses = omega arith; writes = omega arith }) (d .before .bit .ensures) (d .bit2 .ensures)
+    put-held (now (a .args .table)) (a .args .i) (a .pre .0) (a .pre .1) (a .args .fr) _ _ (let k = c .struct-known4 .given in record { pins = omega arith; count = omega arith; accesses = omega arith; writes = omega arith }) (d .before .one-if .ensures .0) (d .one-if2 .ensures .0)
 
 pub put-spec : {M : Type 1} → statement M
 put-spec =

@@ -10,7 +10,7 @@ use Rattle.table.proofs.table_of.Statement.{statement}
 use Rattle.table.proofs.table_of.Tie as tie
 
 abbrev Inv-loop : tie.InvT-loop
-Inv-loop p table₀ i₀ table i = (i ≤ 128) × (length table ≡ 1024) × Filled (p .frames) (framesIn table) i
+Inv-loop p table₀ i₀ table i = (i ≤ 128) × (length table ≡ 2048) × Filled (p .frames) (framesIn table) i
 
 abbrev μ-loop : tie.MeasureT-loop
 μ-loop p table₀ i₀ table i = 128 - i
