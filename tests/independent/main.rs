@@ -71,7 +71,7 @@ fn run(arguments: &[&str]) -> Result<(), Box<dyn Error>> {
                 rule,
                 ..Load::USUAL
             };
-            stdout.write_all(&traces::skewed(&load, order))?;
+            stdout.write_all(&traces::for_timing(&load, order))?;
         }
         ["compare", rows, bench, series, first, count, series_count] => {
             let first: u64 = first.parse()?;

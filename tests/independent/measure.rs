@@ -11,10 +11,15 @@ mod traces;
 use replay::{check, Order, Pool, Rule, Tally};
 use std::hint::black_box;
 use std::time::{Duration, Instant};
-use traces::{skewed, Load};
+use traces::{for_timing, Load};
 
 const RUNS: u32 = 100;
 const ORDER: Order = Order::LowFirst;
+const RULES: [(&str, Rule); 3] = [
+    ("lru", Rule::Lru),
+    ("clock", Rule::Clock),
+    ("watt", Rule::Watt),
+];
 
 type Counts = [u32; 6];
 
@@ -61,7 +66,7 @@ fn timed(replay: fn(&[u8]) -> Counts, bytes: &[u8], calls: u32) -> Duration {
 /// Nanoseconds a record, or a call where there is none: of the proved replay,
 /// then of the independent one.
 fn measured(load: &Load) -> [f64; 2] {
-    let bytes = skewed(load, ORDER);
+    let bytes = for_timing(load, ORDER);
     assert_eq!(proved(&bytes), independent(&bytes), "{load:?}");
     // Short traces are called often enough that the clock's own time is nothing.
     let calls = 2_000 / load.records.clamp(20, 2_000);
@@ -75,7 +80,8 @@ fn measured(load: &Load) -> [f64; 2] {
     least.map(|time| time.as_nanos() as f64 / f64::from(calls * load.records.max(1)))
 }
 
-fn row(load: Load) {
+/// A row of the table; the ratios under each rule.
+fn row(load: Load) -> [f64; 3] {
     let Load {
         frames,
         records,
@@ -86,45 +92,60 @@ fn row(load: Load) {
     } = load;
     let pages = if near { "near" } else { "skewed" };
     print!("{frames:>6} {records:>7} {writes:>6} {batch:>5} {pages:<6}");
-    for rule in [Rule::Lru, Rule::Clock, Rule::Watt] {
+    let ratios = RULES.map(|(_, rule)| {
         let [proved, independent] = measured(&Load { rule, ..load });
         let ratio = proved / independent;
-        print!(" {proved:>8.1} {independent:>8.1} {ratio:>5.2}");
-    }
+        print!("  {proved:>7.1} {independent:>7.1} {ratio:>5.2}");
+        ratio
+    });
     println!();
+    ratios
 }
 
-fn main() {
-    println!("nanoseconds a record (a call, where there are no records), least of {RUNS} runs:");
-    println!("the proved replay, the independent one, and the ratio; writes in percent");
-    println!(
-        "{:>33}      lru                     clock                   watt",
-        ""
-    );
-    println!("frames records writes batch pages  {}", {
-        "   proved    indep ratio".repeat(3).trim_start_matches(' ')
-    });
+/// Small and large pools, each with reads only, with writes in batches of three
+/// sizes, and with nearly all hits; then few records.
+fn loads() -> Vec<Load> {
+    let mut loads = Vec::new();
     for frames in [1, 8, 16, 32, 128] {
         let usual = Load {
             frames,
             ..Load::USUAL
         };
-        row(Load { writes: 0, ..usual });
-        for batch in [1, 8, 16] {
-            row(Load { batch, ..usual });
-        }
-        row(Load {
+        loads.push(Load { writes: 0, ..usual });
+        loads.extend([1, 8, 16].map(|batch| Load { batch, ..usual }));
+        loads.push(Load {
             near: true,
             ..usual
         });
     }
     for frames in [16, 128] {
-        for records in [0, 100, 1_000] {
-            row(Load {
-                frames,
-                records,
-                ..Load::USUAL
-            });
-        }
+        loads.extend([0, 100, 1_000].map(|records| Load {
+            frames,
+            records,
+            ..Load::USUAL
+        }));
+    }
+    loads
+}
+
+fn main() {
+    println!(
+        "nanoseconds a record (a call, where there is none), least of {RUNS} runs: the proved"
+    );
+    println!("replay, the independent one, the ratio; of a hundred records so many are writes");
+    print!("{:34}", "");
+    for (name, _) in RULES {
+        print!("  {name:<21}");
+    }
+    println!();
+    print!("frames records writes batch pages ");
+    println!("{}", "   proved   indep ratio".repeat(RULES.len()));
+    let mut greatest = [0.0_f64; 3];
+    for load in loads() {
+        let ratios = row(load);
+        greatest = std::array::from_fn(|i| greatest[i].max(ratios[i]));
+    }
+    for ((name, _), ratio) in RULES.iter().zip(greatest) {
+        println!("greatest ratio under {name}: {ratio:.2}");
     }
 }

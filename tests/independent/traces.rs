@@ -712,7 +712,7 @@ impl Load {
 /// A trace for timing: over 450 pages of which the low ones are named far more
 /// often, or, near, over as many pages as there are frames and now and then
 /// another.
-pub fn skewed(load: &Load, order: Order) -> Vec<u8> {
+pub fn for_timing(load: &Load, order: Order) -> Vec<u8> {
     let random = &mut Random::new(1);
     let settings = Settings {
         rule: load.rule,

@@ -18,8 +18,8 @@ use Rattle.pool.specs.Pool.{frameAt, withFrames, nowOf}
 use Rattle.pool.proofs.Sound.{Sound}
 use Rattle.pool.proofs.Sizes.{Sized}
 use Rattle.pool.proofs.Quiet.{Alike, Quiet, sound-quiet}
-use Rattle.victim.specs.Watt.{valueAt, lessValue}
-use Rattle.victim.proofs.watt.Values.{from-order}
+use Rattle.victim.specs.Watt.{lessValue}
+use Rattle.victim.proofs.watt.Laws.{watt-order}
 use Rattle.batch.specs.Taken.{othersTo}
 use Rattle.batch.specs.Batch.{batchOrder, waits, batchOf, cleanFrame, cleaned}
 use Rattle.batch.specs.ForCode.{numberOf}
@@ -35,16 +35,12 @@ same-order less less′ e o = record {
   weak = λ a b c h k. sym (e a b) ∙ o .weak a b c (e a c ∙ h) (e b c ∙ k);
 }
 
-by-value : (p : Pool) → Order (lessValue p)
-unfolding valueAt
-by-value p = from-order (p .frames) (p .access) (p .write) (p .settings .weight) (nowOf p)
-
 module _ (p : Pool) (s : Sound p) where
   -- the batch order is an order, under every rule
   pub batch-order : Order (batchOrder p)
   batch-order = elim (decLt (p .settings .rule) 2) [
     | yes l ↦ same-order (λ i j. ltb (numberOf p i) (numberOf p j)) (batchOrder p) (number-order p s l) (by-key (numberOf p))
-    | no l ↦ same-order (lessValue p) (batchOrder p) (value-order p (omega arith)) (by-value p)
+    | no l ↦ same-order (lessValue p) (batchOrder p) (value-order p (omega arith)) (watt-order p)
   ]
 
   module _ (v : ℕ) where

@@ -1,6 +1,6 @@
 -- LRU and clock: the numbers of frames, small enough to be keys, and in the batch order.
 use mathlib.Core.Path.{_≡_, refl, ap, sym, _∙_}
-use mathlib.Core.Bool.{Bool, true, false, _&&_, not}
+use mathlib.Core.Bool.{Bool, true, false}
 use mathlib.Core.List.{List}
 use Prim.Native.Nat.{ℕ, zero, suc, _+_, _-_, _*_, _%_, _≤_, _<_}
 use native.Mathlib.Omega.{arith}
@@ -23,7 +23,7 @@ use Rattle.search.specs.ForCode.{keyed}
 use Rattle.victim.specs.Lru.{older}
 use Rattle.victim.proofs.lru.Laws.{lasts-below}
 use Rattle.batch.specs.Batch.{distance, sooner, batchOrder, waits}
-use Rattle.batch.specs.ForCode.{numberFrom, numberOf, KeyedTo}
+use Rattle.batch.specs.ForCode.{waitsBeside, numberFrom, numberOf, KeyedTo}
 
 -- the distance with no division
 pub up-from : (i f hand : ℕ) → hand ≤ i → i < f → i - hand ≡ (i + f - hand) % f
@@ -58,7 +58,7 @@ distance-small p s i =
 
 -- the keys, one frame more
 pub keyed-more : (p : Pool) (v n : ℕ) (keys : List ℕ) (fr : Frame) (w : Bool) (rank key : ℕ) → length keys ≡ 128 → n < 128 → KeyedTo p v n keys → fr ≡ frameAt (p .frames) n
-    → w ≡ ((fr .dirty && eqb (fr .pins) 0) && not (eqb v n)) → rank ≡ numberFrom (p .settings .rule) fr n (p .settings .frames) (p .hand) → key ≡ keyed w rank n
+    → w ≡ waitsBeside fr v n → rank ≡ numberFrom (p .settings .rule) fr n (p .settings .frames) (p .hand) → key ≡ keyed w rank n
     → KeyedTo p v (n + 1) (set keys n key)
 keyed-more p v n keys fr w rank key long l k q x y z = record {
   key = λ i m. elim (ℕ-discrete i n) [

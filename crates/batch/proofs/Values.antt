@@ -1,13 +1,12 @@
 -- WATT: the values of frames, in the batch order, and in the arrays.
 use mathlib.Core.Path.{_≡_, ap, sym, _∙_}
-use mathlib.Core.Bool.{Bool, false, _&&_, not}
+use mathlib.Core.Bool.{Bool, false}
 use mathlib.Core.List.{List}
 use Prim.Native.Nat.{ℕ, _+_, _≤_, _<_}
 use native.Mathlib.Omega.{arith}
 use native.Mathlib.Decide.{ℕ-discrete}
 use lib.ListN.{length, set}
 use lib.Seq.{getD-set-same, getD-set-other}
-use lib.Dec.{eqb}
 use Rattle.search.specs.Search.{pick}
 use Rattle.worth.specs.declared.Fraction.{Fraction}
 use Rattle.worth.specs.Value.{fraction}
@@ -18,7 +17,7 @@ use Rattle.victim.specs.Lru.{older}
 use Rattle.victim.specs.Watt.{valueIn, valueAt, lessValue}
 use Rattle.victim.proofs.Rules.{rule-rest}
 use Rattle.batch.specs.Batch.{sooner, batchOrder, waits}
-use Rattle.batch.specs.ForCode.{valueWhere, ValuedTo}
+use Rattle.batch.specs.ForCode.{waitsBeside, valueWhere, ValuedTo}
 
 -- values compare as the batch order does
 pub value-order : (p : Pool) → 2 ≤ p .settings .rule → (i j : ℕ) → lessValue p i j ≡ batchOrder p i j
@@ -55,7 +54,7 @@ module _ (p : Pool) (v : ℕ) where
           ];
         }
 
-    pub valued-more : (fr : Frame) (w : Bool) (r : Fraction) → fr ≡ frameAt (p .frames) n → w ≡ ((fr .dirty && eqb (fr .pins) 0) && not (eqb v n))
+    pub valued-more : (fr : Frame) (w : Bool) (r : Fraction) → fr ≡ frameAt (p .frames) n → w ≡ waitsBeside fr v n
         → r ≡ pick w (valueIn fr (p .access) (p .write) n (p .settings .weight) epoch) (fraction 0 1)
         → ValuedTo p v (n + 1) (set ws n w) (set ns n (r .num)) (set ds n (r .den))
     valued-more fr w r q x g =

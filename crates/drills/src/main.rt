@@ -5,8 +5,8 @@ ghost use mathlib.Core.Bool.{true};
 ghost use Prim.Native.Nat.{_+_, _≤_, _<_};
 ghost use lib.ListN.{length};
 ghost use Rattle.reference.specs.ForCode.{RestZero};
-ghost use Rattle.tally.specs.Rows.{row, hit};
-ghost use Rattle.effect.specs.ForCode.{Enterable, LogsEnd};
+ghost use Rattle.tally.specs.Rows.{row};
+ghost use Rattle.effect.specs.ForCode.{Enterable, LogsEnd, Entering};
 use lines::say;
 use lines::say_number;
 use pool::Pool;
@@ -103,7 +103,7 @@ fn logs_end(p: Pool, i: usize) -> bool
 
 // The pool after a record with that row.
 fn entered(p: Pool, row: Row, page: u32, kind: u16) -> Pool
-    requires { ⌜ Enterable p (row .frame) × (row .outcome ≡ hit → LogsEnd p (row .frame)) ⌝ }
+    requires { ⌜ Entering p row ⌝ }
 {
     let h = table::head_of(p);
     let mut table = table::table_of(p);

@@ -17,7 +17,7 @@ use Rattle.settings.proofs.Laws.{ranges}
 use Rattle.pool.specs.declared.Pool.{Pool}
 use Rattle.pool.specs.Pool.{referenceLimit, frameAt, withFrames}
 use Rattle.pool.specs.Sound.{soundPool}
-use Rattle.pool.proofs.Sound.{Logged, Sound, told, made}
+use Rattle.pool.proofs.Sound.{Sound, told, made}
 use Rattle.pool.proofs.Sizes.{Sized}
 use Rattle.table.specs.declared.Head.{Head}
 use Rattle.table.specs.Table.{headOf, poolIn}
@@ -33,7 +33,7 @@ use Rattle.tally.specs.declared.Row.{Row}
 use Rattle.tally.specs.Rows.{row, hit, missUnused, missClean, missDirty, unpinned, refusedRow}
 use Rattle.effect.specs.Record.{Did, did, pinLimit, pinsAt, refusal, pinnedWhere, filled, hitOf, leavingOf, evictionOf, missOf, referenceOf, unpinOf, recordOf}
 use Rattle.effect.specs.declared.Worked.{Worked}
-use Rattle.effect.specs.ForCode.{Effect, Leaves, Plays, Enterable, LogsEnd, RoomAsked, RoomWhere, settledHit, settledMiss, settledReference, settledUnpin, settledBy, placeOf, roomRow, roomPages, roomFrames, roomed, wanted, rowWhere, pagesWhere, poolWhere, movedTo, entered}
+use Rattle.effect.specs.ForCode.{Effect, Leaves, Plays, Enterable, LogsEnd, Entering, RoomAsked, RoomWhere, settledHit, settledMiss, settledReference, settledUnpin, settledBy, placeOf, roomRow, roomPages, roomFrames, roomed, wanted, rowWhere, pagesWhere, poolWhere, movedTo, entered}
 use Rattle.effect.proofs.Settled.{settledOf}
 use Rattle.effect.proofs.Ways.{found-few, unused-few, at-limit, resident, absent, free, full, victim, no-victim, pins-full, pins-free, unpin-absent, unpin-none, unpin-one}
 use Rattle.effect.proofs.Placed.{entered-hit, entered-free, entered-left, entered-unpin, entered-none, entered-settings}
@@ -205,10 +205,10 @@ module _ (p : Pool) (s : soundPool p ≡ true) (z : Sized p) (page kind at : ℕ
     abbrev q : Pool
     q = poolIn (r .head) t (p .access) (p .write)
 
-    pub room-enterable : Enterable q (r .row .frame) × (r .row .outcome ≡ hit → LogsEnd q (r .row .frame))
+    pub room-enterable : Entering q (r .row)
     room-enterable = rw (m .pool) (go (wanted p w) refl)
       where
-        go : (b : Bool) → wanted p w ≡ b → Enterable (pick b (roomed p) p) (r .row .frame) × (r .row .outcome ≡ hit → LogsEnd (pick b (roomed p) p) (r .row .frame))
+        go : (b : Bool) → wanted p w ≡ b → Entering (pick b (roomed p) p) (r .row)
         go true b =
             let a = enterable p (r .row .frame) (told p s) (m .frame) in (
               record { frame = a .frame; epoch = a .epoch; cap = a .cap; few = a .few },

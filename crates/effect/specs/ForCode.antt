@@ -73,7 +73,7 @@ settledReference k found pins free pin = pick (leb referenceLimit k) (refusedRow
 unfoldable pub settledUnpin : Found → ℕ → Row
 settledUnpin found pins = onFound found (λ i. pick (eqb pins 0) (refusedRow notPinned) (row unpinned i 0 0)) (refusedRow notPinned)
 
--- the row, but where a victim is wanted, from the frame in which the page was found, its pins, and an unused frame where it was not
+-- the row, but where a victim is wanted, from the frame in which the page was found, its pins, and the lowest unused frame
 unfoldable pub settledBy : ℕ → Found → ℕ → Found → ℕ → Row
 settledBy k found pins free zero = settledReference k found pins free false
 settledBy k found pins free (suc zero) = settledReference k found pins free false
@@ -219,3 +219,7 @@ pub record Enterable (p : Pool) (i : ℕ) : Type 0 where
 pub record LogsEnd (p : Pool) (i : ℕ) : Type 0 where
   pub access : RestZero (p .access) (i * accessRoom) accessRoom (frameAt (p .frames) i .accesses)
   pub write : RestZero (p .write) (i * writeRoom) writeRoom (frameAt (p .frames) i .writes)
+
+-- what a record with that row asks
+abbrev pub Entering : Pool → Row → Type 0
+Entering p w = Enterable p (w .frame) × (w .outcome ≡ hit → LogsEnd p (w .frame))

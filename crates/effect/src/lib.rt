@@ -12,9 +12,9 @@ ghost use Rattle.search.specs.Search.{pick};
 ghost use Rattle.pool.specs.Pool.{referenceLimit, frameAt};
 ghost use Rattle.pool.specs.Sound.{soundPool};
 ghost use Rattle.table.specs.Table.{framesIn, poolIn};
-ghost use Rattle.tally.specs.Rows.{row, hit, missClean, missDirty};
+ghost use Rattle.tally.specs.Rows.{row, missClean, missDirty};
 ghost use Rattle.effect.specs.Record.{recordOf};
-ghost use Rattle.effect.specs.ForCode.{Leaves, Plays, settledHit, settledMiss, settledReference, settledUnpin, settledBy, placeOf, roomPages, RoomMade, RoomAsked, RoomWhere, Framed, pinsWith, hitFrame, fetchedFrame, unpinnedFrame, withStep, movedTo, Enterable, LogsEnd, hitIn, fetchedIn, entered};
+ghost use Rattle.effect.specs.ForCode.{Leaves, Plays, settledHit, settledMiss, settledReference, settledUnpin, settledBy, placeOf, roomPages, RoomMade, RoomAsked, RoomWhere, Framed, pinsWith, hitFrame, fetchedFrame, unpinnedFrame, withStep, movedTo, Enterable, LogsEnd, Entering, hitIn, fetchedIn, entered};
 
 // A record's row, and settings, k, hand and sampler number afterwards. Frames and logs are changed where they stand.
 pub struct Worked {
@@ -290,7 +290,7 @@ pub fn enter(
     page: u32,
     kind: u16,
 ) -> Head
-    requires { ⌜ Enterable (poolIn h (now table) (now access) (now write)) (row .frame) × (row .outcome ≡ hit → LogsEnd (poolIn h (now table) (now access) (now write)) (row .frame)) ⌝ }
+    requires { ⌜ Entering (poolIn h (now table) (now access) (now write)) row ⌝ }
     ensures { λ r. ⌜ poolIn r (now (table .exit)) (now (access .exit)) (now (write .exit)) ≡ entered (poolIn h (now (table .entry)) (now (access .entry)) (now (write .entry))) row page kind ⌝ }
 {
     let i = row.frame as usize;
@@ -325,7 +325,7 @@ fn room_where<'a>(
     Worked { row: row, head: h }
 }
 
-// A head that moved on: its settings, which stay, are not copied.
+// A head that moved on: k, hand and sampler number are the next one's. The settings are its own, so that they need not go round a loop.
 fn moved(h: Head, next: Head) -> Head
     ensures { λ r. ⌜ r ≡ movedTo h next ⌝ }
 {
@@ -337,7 +337,7 @@ fn moved(h: Head, next: Head) -> Head
 }
 
 // What a record does to a pool, in place: its frames in a table, its logs, and the rest; its written pages go to `out` from `at` on. Each part is
-// called from one place, so that all of it is put into the loop that calls this.
+// called from here alone, so that the compiler puts it in here.
 pub fn play(
     h: Head,
     table: &mut Table,
@@ -359,8 +359,8 @@ pub fn play(
     let settled = settle(h.k, found, old.pins, free, kind);
     let room = room_where(h, table, access, write, settled, out, at);
     let row = room.row;
-    let roomy = room.head;
-    let left = enter(roomy, table, access, write, row, page, kind);
+    let roomed = room.head;
+    let left = enter(roomed, table, access, write, row, page, kind);
     let after = moved(h, left);
     Worked {
         row: row,

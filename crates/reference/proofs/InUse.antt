@@ -13,7 +13,7 @@ use Rattle.search.specs.declared.Found.{Found}
 use Rattle.search.specs.declared.Found.the-variants.{At, Nothing}
 use Rattle.search.specs.Search.{pick, onFound, oneIf, leastBelow, never}
 use Rattle.search.proofs.Least.{least-zero, least-skip, least-first, least-keep, least-sound, least-none, least-none-of, first-lowest, not-both}
-use Rattle.search.proofs.Every.{denied, undenied}
+use Rattle.search.proofs.Every.{denied, undenied, not-so}
 use Rattle.pool.specs.declared.Frame.{Frame}
 use Rattle.pool.specs.declared.Pool.{Pool}
 use Rattle.pool.specs.Pool.{frameAt}
@@ -21,10 +21,6 @@ use Rattle.pool.proofs.Sound.{Sound}
 use Rattle.settings.proofs.Laws.{ranges}
 use Rattle.reference.specs.Search.{unused, lowestUnused}
 use Rattle.reference.specs.ForCode.{UsedLowest, inUse, Residents}
-
-unused-of : (b : Bool) → (b ≡ true → ⊥) → b ≡ false
-unused-of true h = absurd (h refl)
-unused-of false h = refl
 
 -- as many as stand before what was found
 abbrev before : Found → ℕ → ℕ
@@ -47,14 +43,6 @@ module _ (fs : List Frame) where
   pub in-use-none : 0 ≡ inUse fs 0
   unfolding inUse
   in-use-none = sym (ap (λ (r : Found). before r 0) (least-zero (unused fs) never))
-
-  pub in-use-few : (f : ℕ) → inUse fs f ≤ f
-  unfolding inUse
-  in-use-few f = go (first f) refl
-    where
-      go : (r : Found) → first f ≡ r → before r f ≤ f
-      go (At j) e = let l = least-sound (unused fs) never f j e .0 in omega arith
-      go Nothing e = omega arith
 
   -- one frame more is counted
   pub in-use-more : (i n : ℕ) (b : Bool) → UsedLowest fs → i < 128 → n ≡ inUse fs i → frameAt fs i .used ≡ b → n + oneIf b ≡ inUse fs (i + 1)
@@ -107,7 +95,7 @@ module _ (p : Pool) (n : ℕ) (h : n ≡ inUse (p .frames) (p .settings .frames)
       of l used rest = record {
         few = l;
         used = used;
-        rest = λ i m b. unused-of (frameAt (p .frames) i .used) (rest i m b);
+        rest = λ i m b. not-so (frameAt (p .frames) i .used) (rest i m b);
         apart = λ i j m q e. s .frame i (omega arith) .pages (used i m) j q e;
       }
 

@@ -6,4 +6,4 @@ pub mod Keeps
 pub mod Others
 pub mod Referred
 pub mod InUse
-pub mod Resident
+pub mod Finding

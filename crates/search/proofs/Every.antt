@@ -28,6 +28,10 @@ pub undenied : (b : Bool) → not b ≡ false → b ≡ true
 undenied true h = refl
 undenied false h = sym h
 
+pub not-so : (b : Bool) → (b ≡ true → ⊥) → b ≡ false
+not-so true h = absurd (h refl)
+not-so false h = refl
+
 pub every-none : (ok : ℕ → Bool) → everyBelow ok 0 ≡ true
 unfolding everyBelow
 every-none ok = refl
@@ -36,8 +40,11 @@ every-suc : (ok : ℕ → Bool) (n : ℕ) → everyBelow ok (suc n) ≡ (everyBe
 unfolding everyBelow
 every-suc ok n = refl
 
+pub every-next : (ok : ℕ → Bool) (n : ℕ) → everyBelow ok (n + 1) ≡ (everyBelow ok n && ok n)
+every-next ok n = ap (everyBelow ok) (add-one n) ∙ every-suc ok n
+
 pub every-more : (ok : ℕ → Bool) (n : ℕ) → everyBelow ok n ≡ true → ok n ≡ true → everyBelow ok (n + 1) ≡ true
-every-more ok n h e = ap (everyBelow ok) (add-one n) ∙ every-suc ok n ∙ rw (h, e)
+every-more ok n h e = every-next ok n ∙ rw (h, e)
 
 -- what passed tells each, and each tells that all pass
 pub every-at : (ok : ℕ → Bool) (n i : ℕ) → everyBelow ok n ≡ true → i < n → ok i ≡ true

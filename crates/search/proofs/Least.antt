@@ -157,14 +157,15 @@ by-key key = record {
   weak = λ a b c h k. let l = ltb-true (key a) (key c) h in let m = ltb-false (key b) (key c) k in lt-ltb (key a) (key b) (omega arith);
 }
 
-module _ (ok : ℕ → Bool) (less : ℕ → ℕ → Bool) (ord : Order less) where
-  irrefl : (a : ℕ) → less a a ≡ false
-  irrefl a = go (less a a) refl
-    where
-      go : (t : Bool) → less a a ≡ t → t ≡ false
-      go true e = sym e ∙ ord .asym a a e
-      go false e = refl
+-- nothing is less than itself
+pub irrefl : (less : ℕ → ℕ → Bool) → Order less → (a : ℕ) → less a a ≡ false
+irrefl less ord a = go (less a a) refl
+  where
+    go : (t : Bool) → less a a ≡ t → t ≡ false
+    go true e = sym e ∙ ord .asym a a e
+    go false e = refl
 
+module _ (ok : ℕ → Bool) (less : ℕ → ℕ → Bool) (ord : Order less) where
   -- nothing that passes is less than what is found
   pub least-least : (n i j : ℕ) → leastBelow ok less n ≡ At i → j < n → ok j ≡ true → less j i ≡ false
   least-least zero i j h l t = absurd (not-suc-le-zero l)
@@ -172,9 +173,9 @@ module _ (ok : ℕ → Bool) (less : ℕ → ℕ → Bool) (ord : Order less) wh
       offer-cases (λ r. r ≡ At i → less j i ≡ false) ok less n (leastBelow ok less n)
       (λ u e. last-or-below j n l (λ q. absurd (not-both (ok n) (rw q at t) u)) (λ q. least-least n i j e q t))
       (λ u p e. let z : n ≡ i = cc in
-      last-or-below j n l (λ q. rw (q, z) (irrefl i)) (λ q. absurd (not-both (ok j) t (least-none ok less n j p q))))
+      last-or-below j n l (λ q. rw (q, z) (irrefl less ord i)) (λ q. absurd (not-both (ok j) t (least-none ok less n j p q))))
       (λ b u p v e. let z : n ≡ i = cc in
-      last-or-below j n l (λ q. rw (q, z) (irrefl i)) (λ q. subst (λ (x : ℕ). less j x ≡ false) z (beaten n b j v (least-least n b j p q t))))
+      last-or-below j n l (λ q. rw (q, z) (irrefl less ord i)) (λ q. subst (λ (x : ℕ). less j x ≡ false) z (beaten n b j v (least-least n b j p q t))))
       (λ b u p v e. let z : b ≡ i = cc in
       last-or-below j n l (λ q. rw (q, ← z) v) (λ q. subst (λ (x : ℕ). less j x ≡ false) z (least-least n b j p q t)))
       (sym (least-suc ok less n) ∙ h)

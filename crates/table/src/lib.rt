@@ -97,7 +97,7 @@ pub fn clean(table: &mut [u32], i: usize)
     table[i + 256] = 0;
 }
 
-// The frame that was last noted for a page, or for another page with the same place: a guess, which whoever asks has to try.
+// The frame that was noted last at a page's place, for it or for another page, or frame 0: a guess, which whoever asks has to try.
 pub fn guess(table: &Table, page: u32) -> usize
     ensures { λ r. ⌜ (r ≡ guessIn (now (table .entry)) page) × (r < 128) ⌝ }
 {
@@ -112,7 +112,18 @@ pub fn note(table: &mut [u32], page: u32, i: usize)
     table[1024 + (page % 1024) as usize] = i as u32;
 }
 
-// The table of a pool's frames.
+// Notes the page of frame i, where it is in use.
+fn note_used(table: &mut [u32], fr: Frame, i: usize)
+    requires { ⌜ (i < 128) × (length (now table) ≡ 2048) ⌝ }
+    ensures { λ _. ⌜ framesIn (now (table .exit)) ≡ framesIn (now (table .entry)) ⌝ }
+{
+    if fr.used {
+        note(table, fr.page, i);
+        return;
+    }
+}
+
+// The table of a pool's frames, with the pages of those in use noted.
 pub fn table_of(p: Pool) -> Table
     ensures { λ r. ⌜ framesIn r ≡ p .frames ⌝ }
 {
@@ -121,6 +132,7 @@ pub fn table_of(p: Pool) -> Table
     while i < 128 {
         let fr = p.frames[i];
         put(&mut table, i, fr);
+        note_used(&mut table, fr, i);
         i += 1;
     }
     table

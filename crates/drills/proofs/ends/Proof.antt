@@ -22,4 +22,7 @@ returns-2 : tie.Need-returns-2 Inv-loop μ-loop
 returns-2 c _ k l m = c .before .loop .inv k l (omega arith)
 
 pub ends-spec : {M : Type 1} → statement M
-ends-spec = tie.close (tie.spec Inv-loop μ-loop (λ c k l m. absurd (omega arith)) (λ c. search needs) (λ c. search needs) (λ c. search needs) (λ c e. absurd (true≢false (sym e))) (λ c. search needs) (λ c. search needs) loop-again returns-2)
+ends-spec =
+    tie.close
+    (tie.spec Inv-loop μ-loop (λ c k l m. absurd (omega arith)) (λ c. search needs) (λ c. search needs) (λ c. search needs) (λ c e. absurd (true≢false (sym e)))
+    (λ c. search needs) (λ c. search needs) loop-again returns-2)

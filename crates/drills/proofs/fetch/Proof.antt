@@ -1,4 +1,3 @@
-use mathlib.Core.Path.{ap, sym, _∙_}
 use native.Mathlib.Omega.{arith}
 use Rattle.drills.proofs.Laws.{other-row}
 use borrow.Author.Needs.{needs}
@@ -6,7 +5,13 @@ use Rattle.drills.proofs.fetch.Statement.{statement}
 use Rattle.drills.proofs.fetch.Tie as tie
 
 entered-requires : tie.Need-entered-requires
-entered-requires c κs = (c .before .before .before .before .enterable .ensures (c .before .before .before .if1 .taken), λ e. absurd (other-row _ _ _ (c .before .before .before .before .before .row-in .ensures) (λ q. omega arith) e))
+entered-requires c κs =
+    let i = c .before .before .before in
+    let e = i .before in
+    (e .enterable .ensures (i .if1 .taken), λ h. absurd (other-row _ _ _ (e .before .row-in .ensures) (λ q. omega arith) h))
 
 pub fetch-spec : {M : Type 1} → statement M
-fetch-spec = tie.close (tie.spec (λ c κs. search needs) (λ c κs. search needs) (λ c. search needs) (λ c κs. search needs) (λ c κs. search needs) entered-requires (λ c. search needs) (λ c κs. search needs) (λ c. search needs))
+fetch-spec =
+    tie.close
+    (tie.spec (λ c κs. search needs) (λ c κs. search needs) (λ c. search needs) (λ c κs. search needs) (λ c κs. search needs) entered-requires (λ c. search needs)
+    (λ c κs. search needs) (λ c. search needs))

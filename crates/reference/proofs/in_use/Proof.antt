@@ -1,7 +1,6 @@
 use Prim.Native.Nat.{ℕ, _+_, _-_, _≤_}
 use mathlib.Core.Path.{_≡_, ap, sym, _∙_}
 use native.Mathlib.Omega.{arith}
-use denote.Ref.{now}
 use Rattle.pool.specs.declared.Frame.{Frame}
 use Rattle.table.specs.Table.{framesIn}
 use Rattle.reference.specs.ForCode.{inUse}

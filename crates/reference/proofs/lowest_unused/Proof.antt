@@ -1,5 +1,4 @@
 use borrow.Author.Tests.{lt-ltb, le-ltb}
-use borrow.Author.Needs.{needs}
 use Rattle.reference.proofs.lowest_unused.Statement.{statement}
 use Rattle.reference.proofs.lowest_unused.Tie as tie
 

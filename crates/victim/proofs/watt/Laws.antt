@@ -17,8 +17,7 @@ use Rattle.pool.proofs.Sound.{Sound}
 use Rattle.pool.proofs.Quiet.{Quiet, sound-quiet}
 use Rattle.victim.specs.Choice.{unpinned, leftBy}
 use Rattle.victim.specs.Watt.{valueAt, lessValue, leastValue, drawnFrame, wattVictim, wattChoice}
-use Rattle.worth.proofs.Order.{less-asym, less-weak}
-use Rattle.victim.proofs.watt.Values.{value-positive}
+use Rattle.victim.proofs.watt.Values.{from-order}
 use Rattle.victim.proofs.Owed.{AllPinned, repagedPool, repagedChoice, EmptyStays, frame-repaged, lowered-same, quiet-of, Owes}
 
 -- it does not look at page numbers; this stands first, so that an order that looks at them is refused here
@@ -107,10 +106,8 @@ module _ (p : Pool) where
 
   -- by value is an order
   pub watt-order : Order (lessValue p)
-  watt-order = record {
-    asym = λ a b h. less-asym (valueAt p a) (valueAt p b) h;
-    weak = λ a b c h k. less-weak (valueAt p a) (valueAt p b) (valueAt p c) (value-positive p b) h k;
-  }
+  unfolding valueAt
+  watt-order = from-order (p .frames) (p .access) (p .write) (p .settings .weight) (nowOf p)
 
   least-by : (counts : ℕ → Bool) (v j : ℕ) → leastValue p counts ≡ At v → j < p .settings .frames → counts j ≡ true → unpinned (p .frames) j ≡ true
       → ahead (valueAt p) j v ≡ false

@@ -1,8 +1,8 @@
 -- The one frame that holds a page: as a sum, one past it, 0 where there is none; and as a guess that is right.
 use mathlib.Core.Path.{_≡_, refl, ap, sym, _∙_}
-use mathlib.Core.Bool.{Bool, true, false, _&&_, and-eq-true-iff, true≢false}
+use mathlib.Core.Bool.{Bool, true, false, _||_, and-eq-true-iff, true≢false}
 use mathlib.Core.List.{List}
-use Prim.Native.Nat.{ℕ, zero, suc, _+_, _-_, _≤_, _<_}
+use Prim.Native.Nat.{ℕ, _+_, _-_, _≤_, _<_}
 use native.Mathlib.Omega.{arith}
 use native.Mathlib.Decide.{decLt}
 use lib.Dec.{eqb}
@@ -10,11 +10,12 @@ use borrow.Author.Tests.{eqb-true}
 use Rattle.search.specs.declared.Found.{Found}
 use Rattle.search.specs.declared.Found.the-variants.{At, Nothing}
 use Rattle.search.specs.Search.{onFound, leastBelow, never}
-use Rattle.search.proofs.Least.{least-zero, least-skip, least-first, least-sound, least-none-of, least-rest, first-found}
+use Rattle.search.proofs.Least.{least-zero, least-skip, least-first, least-keep, least-sound, least-none-of, least-rest, first-found}
+use Rattle.search.proofs.Every.{not-so}
 use Rattle.pool.specs.declared.Frame.{Frame}
 use Rattle.pool.specs.Pool.{frameAt}
 use Rattle.reference.specs.Search.{has, findPage}
-use Rattle.reference.specs.ForCode.{Residents, onePast}
+use Rattle.reference.specs.ForCode.{Residents, isFound, onePast}
 
 -- what was found, as a number
 abbrev pub past : Found → ℕ
@@ -39,6 +40,21 @@ module _ (ok : ℕ → Bool) where
       go : (f : Found) → leastBelow ok never i ≡ f → n + m ≡ past (leastBelow ok never (i + 1))
       go (At j) y = let s = least-sound ok never i j y in absurd (one j (s .0) e (s .1))
       go Nothing y = let none = h ∙ ap past y in let first = ap past (least-first ok never i e y) in omega arith
+
+  -- whether one passes, likewise
+  pub seen-none : false ≡ isFound (leastBelow ok never 0)
+  seen-none = sym (ap isFound (least-zero ok never))
+
+  pub seen-more : (i : ℕ) (seen b : Bool) → ok i ≡ b → seen ≡ isFound (leastBelow ok never i) → (seen || b) ≡ isFound (leastBelow ok never (i + 1))
+  seen-more i seen b e h = go (leastBelow ok never i) refl b e
+    where
+      next : (f : Found) → leastBelow ok never (i + 1) ≡ f → isFound f ≡ isFound (leastBelow ok never (i + 1))
+      next f x = sym (ap isFound x)
+
+      go : (f : Found) → leastBelow ok never i ≡ f → (b : Bool) → ok i ≡ b → (seen || b) ≡ isFound (leastBelow ok never (i + 1))
+      go (At j) y b x = rw (h, y) (next (At j) (least-keep ok never i j refl y))
+      go Nothing y true x = rw (h, y) (next (At i) (least-first ok never i x y))
+      go Nothing y false x = rw (h, y) (next Nothing (least-skip ok never i x ∙ y))
 
   -- what the sum says in the end
   pub past-found : (n m : ℕ) → (n ≡ 0 → ⊥) → n ≡ past (leastBelow ok never m) → At (n - 1) ≡ leastBelow ok never m
@@ -78,13 +94,16 @@ module _ (fs : List Frame) (n page : ℕ) (r : Residents fs n) where
   unfolding findPage
   among-all = sym (least-rest (has fs page) never n 128 (r .few) (λ i l m. rw (r .rest i l m)))
 
+  pub not-found : (seen : Bool) → seen ≡ isFound (findPage fs page) → seen ≡ false → Nothing ≡ findPage fs page
+  not-found seen e h = go (findPage fs page) refl
+    where
+      go : (f : Found) → findPage fs page ≡ f → Nothing ≡ findPage fs page
+      go (At j) y = absurd (true≢false (sym (e ∙ ap isFound y) ∙ h))
+      go Nothing y = sym y
+
   -- a frame that holds the page is what is found
   pub guess-right : (i : ℕ) → i < 128 → has fs page i ≡ true → At i ≡ findPage fs page
   unfolding findPage
   guess-right i l h =
       sym (first-found (has fs page) 128 i l
-      (least-none-of (has fs page) never i (λ j m. go j m (has fs page j) refl)) h)
-    where
-      go : (j : ℕ) → j < i → (b : Bool) → has fs page j ≡ b → b ≡ false
-      go j m false e = refl
-      go j m true e = absurd (one-holds i j l m h e)
+      (least-none-of (has fs page) never i (λ j m. not-so (has fs page j) (one-holds i j l m h))) h)
