@@ -31,23 +31,23 @@ extern "C" {
  * given to single records, 14 and 15 by calls that take a pool. */
 enum hitchyawl_refusal {
     HITCHYAWL_ACCEPTED = 0,
-    HITCHYAWL_TOO_SHORT = 1,             /* under 48 bytes */
-    HITCHYAWL_UNKNOWN_MARK = 2,          /* unknown mark */
-    HITCHYAWL_WRONG_EDITION = 3,         /* edition not 1 */
-    HITCHYAWL_TOO_MANY_RECORDS = 4,      /* n above 8,000 */
-    HITCHYAWL_WRONG_LENGTH = 5,          /* offset, length field or actual length wrong;
-                                            writer's lists of unequal length */
-    HITCHYAWL_BAD_ZERO_OR_KIND = 6,      /* a zero field not zero, or a bad kind */
-    HITCHYAWL_WRONG_WRITE_COUNT = 7,     /* write count differs from the records */
-    HITCHYAWL_SETTING_OUT_OF_RANGE = 8,  /* a setting out of range */
-    HITCHYAWL_REFERENCES_USED_UP = 9,    /* k is 50,000 at a reference */
-    HITCHYAWL_ALL_FRAMES_PINNED = 10,    /* a miss with all f frames in use and pinned */
-    HITCHYAWL_NOT_PINNED = 11,           /* unpin of a page not resident or with pin count 0 */
-    HITCHYAWL_TOO_MANY_PINS = 12,        /* pin of a resident page with pin count 255 */
-    HITCHYAWL_BUFFER_TOO_SHORT = 13,     /* a lent buffer is too short */
-    HITCHYAWL_POOL_NOT_SOUND = 14,       /* pool not sound, or a count of the tally handed in
-                                            above 4,000,000,000 */
-    HITCHYAWL_SETTINGS_DIFFER = 15       /* trace settings differ from the pool's */
+    HITCHYAWL_TOO_SHORT = 1,         /* under 48 bytes */
+    HITCHYAWL_UNKNOWN_MARK = 2,      /* unknown mark */
+    HITCHYAWL_OTHER_EDITION = 3,     /* edition not 1 */
+    HITCHYAWL_TOO_MANY = 4,          /* n above 8,000 */
+    HITCHYAWL_WRONG_LENGTH = 5,      /* offset, length field or actual length wrong;
+                                        writer's lists of unequal length */
+    HITCHYAWL_BAD_FIELD = 6,         /* a zero field not zero, or a bad kind */
+    HITCHYAWL_WRONG_WRITES = 7,      /* write count differs from the records */
+    HITCHYAWL_OUT_OF_RANGE = 8,      /* a setting out of range */
+    HITCHYAWL_NO_REFERENCE_LEFT = 9, /* k is 50,000 at a reference */
+    HITCHYAWL_NO_FRAME = 10,         /* a miss with all f frames in use and pinned */
+    HITCHYAWL_NOT_PINNED = 11,       /* unpin of a page not resident or with pin count 0 */
+    HITCHYAWL_PINS_FULL = 12,        /* pin of a resident page with pin count 255 */
+    HITCHYAWL_NO_ROOM = 13,          /* a lent buffer is too short */
+    HITCHYAWL_NOT_SOUND = 14,        /* pool not sound, or a count of the tally handed in
+                                        above 4,000,000,000 */
+    HITCHYAWL_OTHER_SETTINGS = 15    /* trace settings differ from the pool's */
 };
 
 /* Whether the `length` bytes are a trace, in either byte order.

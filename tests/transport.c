@@ -472,7 +472,7 @@ static void try_short_rooms(struct buffer trace, enum order order)
     struct buffer out = untouched_buffer(trace.length + BEYOND, 1);
     for (size_t room = 0; room < trace.length; room++) {
         name_case("room for %zu bytes of %zu, %s first", room, trace.length, name_of(order));
-        expect_answer("convert", HITCHYAWL_BUFFER_TOO_SHORT, hitchyawl_convert(trace.at, trace.length, out.at, room));
+        expect_answer("convert", HITCHYAWL_NO_ROOM, hitchyawl_convert(trace.at, trace.length, out.at, room));
         expect_untouched(out, 0);
     }
     release(out);
@@ -483,7 +483,7 @@ static void try_short_count_rooms(struct buffer trace, enum order order)
     struct buffer out = untouched_buffer(COUNTS_BYTES + BEYOND, 1);
     for (size_t room = 0; room < COUNTS_BYTES; room++) {
         name_case("room for %zu bytes of counts, %s first", room, name_of(order));
-        expect_answer("counts", HITCHYAWL_BUFFER_TOO_SHORT, hitchyawl_counts(trace.at, trace.length, out.at, room));
+        expect_answer("counts", HITCHYAWL_NO_ROOM, hitchyawl_counts(trace.at, trace.length, out.at, room));
         expect_untouched(out, 0);
     }
     release(out);
@@ -496,10 +496,10 @@ static void try_null_pointers(struct buffer trace)
     expect_answer("check", HITCHYAWL_TOO_SHORT, hitchyawl_check(NULL, 0));
     expect_answer("convert of nothing to nothing", HITCHYAWL_TOO_SHORT, hitchyawl_convert(NULL, 0, NULL, 0));
     expect_answer("convert of nothing", HITCHYAWL_TOO_SHORT, hitchyawl_convert(NULL, 0, out, sizeof out));
-    expect_answer("convert to nothing", HITCHYAWL_BUFFER_TOO_SHORT, hitchyawl_convert(trace.at, trace.length, NULL, 0));
+    expect_answer("convert to nothing", HITCHYAWL_NO_ROOM, hitchyawl_convert(trace.at, trace.length, NULL, 0));
     expect_answer("counts of nothing to nothing", HITCHYAWL_TOO_SHORT, hitchyawl_counts(NULL, 0, NULL, 0));
     expect_answer("counts of nothing", HITCHYAWL_TOO_SHORT, hitchyawl_counts(NULL, 0, out, sizeof out));
-    expect_answer("counts to nothing", HITCHYAWL_BUFFER_TOO_SHORT, hitchyawl_counts(trace.at, trace.length, NULL, 0));
+    expect_answer("counts to nothing", HITCHYAWL_NO_ROOM, hitchyawl_counts(trace.at, trace.length, NULL, 0));
 }
 
 static void try_faults(const char *path, enum order order)
@@ -536,8 +536,8 @@ static void try_built(uint32_t count, const uint32_t *counts, const char *name)
         try_pair(high, low, counts, name);
     } else {
         name_case("%s", name);
-        expect_refused(high.at, high.length, HITCHYAWL_TOO_MANY_RECORDS);
-        expect_refused(low.at, low.length, HITCHYAWL_TOO_MANY_RECORDS);
+        expect_refused(high.at, high.length, HITCHYAWL_TOO_MANY);
+        expect_refused(low.at, low.length, HITCHYAWL_TOO_MANY);
     }
     release(high);
     release(low);

@@ -5,7 +5,7 @@ use mathlib.Core.List.{List, [], _∷_}
 use mathlib.Core.Logic.{_⊎_, ⊎-elim}
 use Prim.Native.Nat.{ℕ, zero, _-_, _≤_}
 use native.Mathlib.Omega.{arith}
-use native.Mathlib.Decide.{decLt}
+use native.Mathlib.Decide.{ℕ-discrete}
 use lib.ListN.{length}
 use lib.Dec.{ltb}
 use Rattle.search.specs.Search.{pick, among}
@@ -14,14 +14,15 @@ use Rattle.search.proofs.Every.{pick-ind}
 use Rattle.settings.proofs.Laws.{ranges}
 use Rattle.pool.specs.declared.Frame.{Frame}
 use Rattle.pool.specs.declared.Pool.{Pool}
-use Rattle.pool.specs.Pool.{frameAt, withFrames, nowOf}
+use Rattle.pool.specs.Pool.{frameAt, withDirty, withFrames, nowOf}
 use Rattle.pool.proofs.Sound.{Sound}
 use Rattle.pool.proofs.Sizes.{Sized}
 use Rattle.pool.proofs.Quiet.{Alike, Quiet, sound-quiet}
 use Rattle.victim.specs.Watt.{lessValue}
 use Rattle.victim.proofs.watt.Laws.{watt-order}
 use Rattle.batch.specs.Taken.{othersTo}
-use Rattle.batch.specs.Batch.{batchOrder, waits, batchOf, cleanFrame, cleaned}
+use Rattle.victim.specs.Rules.{batchOrder}
+use Rattle.batch.specs.Batch.{waits, batchOf, cleanFrame, cleaned}
 use Rattle.batch.specs.ForCode.{numberOf}
 use Rattle.batch.proofs.Numbers.{number-order}
 use Rattle.batch.proofs.Values.{value-order}
@@ -38,9 +39,9 @@ same-order less less′ e o = record {
 module _ (p : Pool) (s : Sound p) where
   -- the batch order is an order, under every rule
   pub batch-order : Order (batchOrder p)
-  batch-order = elim (decLt (p .settings .rule) 2) [
-    | yes l ↦ same-order (λ i j. ltb (numberOf p i) (numberOf p j)) (batchOrder p) (number-order p s l) (by-key (numberOf p))
-    | no l ↦ same-order (lessValue p) (batchOrder p) (value-order p (omega arith)) (watt-order p)
+  batch-order = elim (ℕ-discrete (p .settings .rule) 2) [
+    | yes e ↦ same-order (lessValue p) (batchOrder p) (value-order p e) (watt-order p)
+    | no e ↦ same-order (λ i j. ltb (numberOf p i) (numberOf p j)) (batchOrder p) (number-order p s e) (by-key (numberOf p))
   ]
 
   module _ (v : ℕ) where
@@ -86,7 +87,7 @@ module _ (p : Pool) (s : Sound p) where
     writes = refl;
     dirty = λ d. absurd (true≢false (sym d));
     count = c;
-    still = λ u. ap (λ (d : Bool). record { used = fr .used; page = fr .page; dirty = d; pins = fr .pins; count = fr .count; last = fr .last; accesses = fr .accesses; writes = fr .writes }) (sym (z u));
+    still = λ u. ap (withDirty fr) (sym (z u));
   }
   alike false fr c z = record { used = refl; page = refl; last = refl; accesses = refl; writes = refl; dirty = λ d. d; count = c; still = λ _. refl }
 

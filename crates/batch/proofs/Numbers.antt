@@ -17,12 +17,11 @@ use Rattle.pool.specs.declared.Frame.{Frame}
 use Rattle.pool.specs.declared.Pool.{Pool}
 use Rattle.pool.specs.Pool.{frameAt}
 use Rattle.pool.proofs.Sound.{Sound}
-use Rattle.victim.specs.Watt.{lessValue}
-use Rattle.victim.specs.Rules.{byRule}
-use Rattle.search.specs.ForCode.{keyed}
-use Rattle.victim.specs.Lru.{older}
+use Rattle.victim.specs.Rules.{byRule, batchOrder}
+use Rattle.search.specs.ForCode.{keyed, rankLimit}
 use Rattle.victim.proofs.lru.Laws.{lasts-below}
-use Rattle.batch.specs.Batch.{distance, sooner, batchOrder, waits}
+use Rattle.victim.specs.Clock.{distance}
+use Rattle.batch.specs.Batch.{waits}
 use Rattle.batch.specs.ForCode.{waitsBeside, numberFrom, numberOf, KeyedTo}
 
 -- the distance with no division
@@ -71,21 +70,21 @@ keyed-more p v n keys fr w rank key long l k q x y z = record {
     here = z ∙ rw (x, y, q)
 
 -- a sound pool's numbers are small
-pub number-small : (p : Pool) → Sound p → (i : ℕ) → i < p .settings .frames → numberOf p i ≤ 50000
+pub number-small : (p : Pool) → Sound p → (i : ℕ) → i < p .settings .frames → numberOf p i ≤ rankLimit
 number-small p s i l =
     let r = ranges (p .settings) (s .settings) in
     let few = r .frames .1 in
     let capped = s .frame i (omega arith) .capped in
     let cap = r .cap .1 in
     let far = distance-small p s i in
-    pick-ind (λ n. n ≤ 50000) (eqb (p .settings .rule) 0) (frameAt (p .frames) i .last) (frameAt (p .frames) i .count * 128 + distance p i) (λ _. lasts-below p s .1 i l) (λ _. omega arith)
+    pick-ind (λ n. n ≤ rankLimit) (eqb (p .settings .rule) 1) (frameAt (p .frames) i .count * 128 + distance p i) (frameAt (p .frames) i .last) (λ _. omega arith) (λ _. lasts-below p s .1 i l)
 
 -- and compare as the batch order does
-pub number-order : (p : Pool) → Sound p → p .settings .rule < 2 → (i j : ℕ) → ltb (numberOf p i) (numberOf p j) ≡ batchOrder p i j
+pub number-order : (p : Pool) → Sound p → (p .settings .rule ≡ 2 → ⊥) → (i j : ℕ) → ltb (numberOf p i) (numberOf p j) ≡ batchOrder p i j
 unfolding batchOrder
-number-order p s l i j = go (p .settings .rule) l
+number-order p s ne i j = go (p .settings .rule) (let r = ranges (p .settings) (s .settings) .rule in omega (arith, ne))
   where
-    go : (r : ℕ) → r < 2 → ltb (numberFrom r (frameAt (p .frames) i) i (p .settings .frames) (p .hand)) (numberFrom r (frameAt (p .frames) j) j (p .settings .frames) (p .hand)) ≡ byRule r (older (p .frames) i j) (sooner p i j) (lessValue p i j)
+    go : (r : ℕ) → r < 2 → ltb (numberFrom r (frameAt (p .frames) i) i (p .settings .frames) (p .hand)) (numberFrom r (frameAt (p .frames) j) j (p .settings .frames) (p .hand)) ≡ byRule r .order p i j
     go zero m = refl
     go (suc zero) m = lexical (frameAt (p .frames) i .count) (distance p i) (frameAt (p .frames) j .count) (distance p j) (distance-small p s i) (distance-small p s j)
     go (suc (suc r)) m = absurd (omega arith)

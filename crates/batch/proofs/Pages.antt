@@ -9,13 +9,11 @@ use Rattle.search.specs.Search.{pick}
 use Rattle.pool.specs.declared.Frame.{Frame}
 use Rattle.pool.specs.declared.Pool.{Pool}
 use Rattle.pool.specs.Pool.{frameAt}
-use Rattle.victim.specs.Lru.{older}
-use Rattle.victim.specs.Watt.{lessValue}
 use Rattle.victim.proofs.Owed.{repaged, repagedPool, EmptyStays, frame-repaged, map-set}
-use Rattle.victim.proofs.watt.Laws.{value-repaged}
-use Rattle.victim.proofs.Rules.{rule-each}
+use Rattle.victim.proofs.Rules.{choice-owes}
 use Rattle.batch.specs.Taken.{othersTo}
-use Rattle.batch.specs.Batch.{sooner, batchOrder, waits, batchOf, cleanFrame, cleaned}
+use Rattle.victim.specs.Rules.{batchOrder}
+use Rattle.batch.specs.Batch.{waits, batchOf, cleanFrame, cleaned}
 use Rattle.batch.proofs.Whole.{others-same}
 
 module _ (new : Bool → ℕ → ℕ) (stays : EmptyStays new) where
@@ -28,12 +26,7 @@ module _ (new : Bool → ℕ → ℕ) (stays : EmptyStays new) where
 
     -- the order of each rule
     order-repaged : (i j : ℕ) → batchOrder q i j ≡ batchOrder p i j
-    unfolding batchOrder
-    order-repaged i j =
-        let a = frame-repaged new stays fs i in
-        let b = frame-repaged new stays fs j in
-        rule-each (λ (before : Bool). before) (p .settings .rule) (older fs i j) (sooner p i j) (lessValue p i j) (older (q .frames) i j) (sooner q i j) (lessValue q i j)
-        (rw (a, b)) (rw (a, b)) (rw (value-repaged new stays p i, value-repaged new stays p j))
+    order-repaged = choice-owes .sorts new stays p
 
     waits-repaged : (v i : ℕ) → waits q v i ≡ waits p v i
     waits-repaged v i = ap (λ (fr : Frame). (fr .dirty && eqb (fr .pins) 0) && not (eqb v i)) (frame-repaged new stays fs i)

@@ -15,7 +15,7 @@ use Rattle.search.specs.Search.{onFound, leastBelow, among}
 use Rattle.search.proofs.Least.{Order, least-sound, least-none, least-least, least-lowest}
 use Rattle.search.proofs.Every.{denied}
 use Rattle.search.proofs.Among.{All, all-none, all-snoc, among-snoc}
-use Rattle.batch.specs.Taken.{left, oneMore, othersTo}
+use Rattle.batch.specs.Taken.{remaining, oneMore, othersTo}
 
 -- t comes before i in the order, the lower number on a tie
 abbrev pub Before : (ℕ → ℕ → Bool) → ℕ → ℕ → Type 0
@@ -36,7 +36,7 @@ module _ (waits : ℕ → Bool) (before : ℕ → ℕ → Bool) (f : ℕ) (ord :
   others n = othersTo waits before f n
 
   abbrev still : List ℕ → ℕ → Bool
-  still xs = left waits before f xs
+  still xs = remaining waits before f xs
 
   sorted-snoc : (xs : List ℕ) (y : ℕ) → Sorted before xs → All (λ t. Before before t y) xs → Sorted before (xs ++ (y ∷ []))
   unfolding Sorted All

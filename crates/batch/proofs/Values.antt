@@ -13,26 +13,16 @@ use Rattle.worth.specs.Value.{fraction}
 use Rattle.pool.specs.declared.Frame.{Frame}
 use Rattle.pool.specs.declared.Pool.{Pool}
 use Rattle.pool.specs.Pool.{frameAt, nowOf, epochAt}
-use Rattle.victim.specs.Lru.{older}
 use Rattle.victim.specs.Watt.{valueIn, valueAt, lessValue}
-use Rattle.victim.proofs.Rules.{rule-rest}
-use Rattle.batch.specs.Batch.{sooner, batchOrder, waits}
+use Rattle.victim.specs.Rules.{batchOrder}
+use Rattle.victim.proofs.watt.Values.{value-is}
+use Rattle.batch.specs.Batch.{waits}
 use Rattle.batch.specs.ForCode.{waitsBeside, valueWhere, ValuedTo}
 
 -- values compare as the batch order does
-pub value-order : (p : Pool) → 2 ≤ p .settings .rule → (i j : ℕ) → lessValue p i j ≡ batchOrder p i j
+pub value-order : (p : Pool) → p .settings .rule ≡ 2 → (i j : ℕ) → lessValue p i j ≡ batchOrder p i j
 unfolding batchOrder
-value-order p l i j = sym (rule-rest (p .settings .rule) (older (p .frames) i j) (sooner p i j) (lessValue p i j) l)
-
--- frame i's value from the parts of the pool that the code hands over
-value-is : (p : Pool) (i epoch : ℕ) → epoch ≡ nowOf p → valueIn (frameAt (p .frames) i) (p .access) (p .write) i (p .settings .weight) epoch ≡ valueAt p i
-unfolding valueAt
-value-is p i epoch e = rw e
-
--- now, as the code finds it
-pub now-is : (p : Pool) (epoch : ℕ) → epoch ≡ epochAt (p .settings) (p .k) → epoch ≡ nowOf p
-unfolding nowOf
-now-is p epoch e = e
+value-order p e i j = rw e
 
 -- the arrays of waiting frames and values, one frame more
 module _ (p : Pool) (v : ℕ) where

@@ -1,33 +1,16 @@
--- Batch: its order under each rule, its frames, and what is written and left.
-use Prim.Native.Nat.{ℕ, _+_, _-_, _%_}
+-- Batch: its frames, and what is written and left. Its order is the rule's.
+use Prim.Native.Nat.{ℕ, _-_}
 use mathlib.Core.Bool.{Bool, false, _&&_, not}
 use mathlib.Core.List.{List, [], _∷_, map}
 use lib.ListN.{set}
-use lib.Dec.{eqb, ltb}
+use lib.Dec.{eqb}
 use Rattle.search.specs.Search.{pick}
 use Rattle.pool.specs.declared.Frame.{Frame}
 use Rattle.pool.specs.declared.Pool.{Pool}
 use Rattle.pool.specs.Pool.{frameAt, withDirty}
 use Rattle.victim.specs.Choice.{unpinned}
-use Rattle.victim.specs.Lru.{older}
-use Rattle.victim.specs.Watt.{lessValue}
-use Rattle.victim.specs.Rules.{byRule}
+use Rattle.victim.specs.Rules.{batchOrder}
 use Rattle.batch.specs.Taken.{othersTo}
-
--- distance upward from the hand after the sweep
-abbrev pub distance : Pool → ℕ → ℕ
-distance p i = (i + p .settings .frames - p .hand) % p .settings .frames
-
--- clock by count after the sweep, then distance
-abbrev pub sooner : Pool → ℕ → ℕ → Bool
-sooner p i j =
-    pick (eqb (frameAt (p .frames) i .count) (frameAt (p .frames) j .count))
-    (ltb (distance p i) (distance p j))
-    (ltb (frameAt (p .frames) i .count) (frameAt (p .frames) j .count))
-
--- LRU by last step; WATT by value over all frames, and on a tie the search takes the lower frame number; clock by count and distance
-unfoldable pub batchOrder : Pool → ℕ → ℕ → Bool
-batchOrder p i j = byRule (p .settings .rule) (older (p .frames) i j) (sooner p i j) (lessValue p i j)
 
 -- the other dirty unpinned frames, beside victim v
 abbrev pub waits : Pool → ℕ → ℕ → Bool

@@ -1,7 +1,7 @@
 // Replays a trace on standard input to counts from a fresh pool, and prints the sheet, or `trace refused N`.
 use lines::say_line;
-use lines::say_policy;
 use lines::say_refused;
+use listing::say_policy;
 use trace::Checked;
 use trace::Summary;
 
@@ -24,9 +24,9 @@ fn bench(bytes: &[u8]) {
     }
 }
 
-// The longest trace has 64,048 bytes. One byte more is read, so that a longer input shows its wrong length.
+// One byte more than the longest trace has is read, so that a longer input shows its wrong length.
 fn main() {
-    let mut space = [0u8; 64049];
+    let mut space = [0u8; trace::BYTE_LIMIT + 1];
     let n = io::read_full(libc::STDIN_FILENO, &mut space);
     bench(&space[..n]);
 }

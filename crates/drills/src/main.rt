@@ -71,8 +71,8 @@ fn row_in(outcome: u32, frame: u32) -> Row
 fn enterable(p: Pool, row: Row) -> bool
     ensures { λ r. ⌜ (r ≡ true → Enterable p (row .frame)) ⌝ }
 {
-    let most = pool::REFERENCE_LIMIT - search::one_if(row.outcome <= tally::MISS_DIRTY);
-    (row.frame < 128) & ((p.k <= most) & ((0 < p.settings.epoch) & (p.settings.cap <= 7)))
+    let most = limit::REFERENCE_LIMIT - search::one_if(row.outcome <= tally::MISS_DIRTY);
+    (row.frame < 128) & ((p.k <= most) & ((0 < p.settings.span) & (p.settings.cap <= 7)))
 }
 
 // Whether the places past the n entries of a log are zero.
@@ -105,11 +105,12 @@ fn logs_end(p: Pool, i: usize) -> bool
 fn entered(p: Pool, row: Row, page: u32, kind: u16) -> Pool
     requires { ⌜ Entering p row ⌝ }
 {
+    let asks = effect::asked_by(kind);
     let h = table::head_of(p);
     let mut table = table::table_of(p);
     let mut access = p.access;
     let mut write = p.write;
-    let left = effect::enter(h, &mut table, &mut access, &mut write, row, page, kind);
+    let left = effect::enter(h, &mut table, &mut access, &mut write, row, page, asks);
     table::pool_of(left, &table, access, write)
 }
 
@@ -151,7 +152,7 @@ fn pin(p: Pool, i: usize) -> Pool {
 }
 
 fn unpin(p: Pool, i: u32) -> Pool {
-    let row = row_in(tally::UNPINNED, i);
+    let row = row_in(tally::UNPIN_DONE, i);
     if enterable(p, row) {
         let fr = p.frames[row.frame as usize];
         if 0 < fr.pins {
@@ -305,16 +306,8 @@ fn take_command() -> Taken {
 }
 
 fn main() {
-    let mut s = Settings {
-        rule: 0,
-        frames: 0,
-        batch: 0,
-        cap: 0,
-        sample: 0,
-        weight: 0,
-        epoch: 0,
-        seed: 0,
-    };
+    let mut s = settings::one_frame();
+    s.frames = 0;
     let first = pool::fresh(s);
     let mut p = first.pool;
     let mut turns: u32 = 0;

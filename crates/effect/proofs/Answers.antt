@@ -14,14 +14,15 @@ use Rattle.search.proofs.Least.{least-none-of}
 use Rattle.search.proofs.Every.{pick-ind}
 use Rattle.refusal.specs.Refusals.{badField, noReferenceLeft, noFrame, notPinned, pinsFull}
 use Rattle.pool.specs.declared.Pool.{Pool}
-use Rattle.pool.specs.Pool.{referenceLimit, frameAt, withFrames}
+use Rattle.limit.specs.Limits.{referenceLimit}
+use Rattle.pool.specs.Pool.{frameAt, withFrames}
+use Rattle.pool.proofs.Sound.{Sound}
 use Rattle.reference.specs.Search.{findPage, unused, lowestUnused}
 use Rattle.reference.specs.Reference.{referred, hitAt, fetchedAt, pinnedAt}
 use Rattle.reference.proofs.Keeps.{none-unused}
-use Rattle.victim.specs.Choice.{leftBy}
-use Rattle.victim.specs.Choice as choice
+use Rattle.victim.specs.Choice.{leftBy, unpinned}
 use Rattle.victim.specs.Rules.{choiceOf}
-use Rattle.victim.proofs.Rules.{choice-owes}
+use Rattle.victim.proofs.Rules.{choice-serves}
 use Rattle.batch.specs.Batch.{batchOf, cleaned}
 use Rattle.tally.specs.Rows.{row, hit, missClean, missDirty, refusedBy}
 use Rattle.effect.specs.Record.{Did, did, pinLimit, pinsAt, refusal, pinnedWhere, filled, leavingOf, missOf, referenceOf, unpinOf, recordOf}
@@ -54,30 +55,35 @@ leaving-accepted p q v page write pin e = record {
 
 -- every frame below f is in use and pinned
 abbrev pub EveryPinned : Pool → Type 0
-EveryPinned p = (i : ℕ) → i < p .settings .frames → (frameAt (p .frames) i .used ≡ true) × (choice.unpinned (p .frames) i ≡ false)
+EveryPinned p = (i : ℕ) → i < p .settings .frames → (frameAt (p .frames) i .used ≡ true) × (unpinned (p .frames) i ≡ false)
 
-every-pinned : (p : Pool) → lowestUnused p ≡ Nothing → choiceOf p .found ≡ Nothing → EveryPinned p
-every-pinned p none e i l = (none-unused p none i l, choice-owes .none p .0 e i l)
-
+-- a missed page: accepted, or refused 10 where no frame is unused and the rule finds none
 module _ (p : Pool) (page : ℕ) (write pin : Bool) where
-  -- a missed page: accepted, or refused 10, and that exactly where every frame below f is in use and pinned
-  pub miss-answers : Accepted p (missOf p page write pin) ⊎ ((missOf p page write pin ≡ refusal p noFrame) × EveryPinned p)
+  abbrev NoneFound : Type 0
+  NoneFound = (missOf p page write pin ≡ refusal p noFrame) × (lowestUnused p ≡ Nothing) × (choiceOf p .found ≡ Nothing)
+
+  pub miss-answers : Accepted p (missOf p page write pin) ⊎ NoneFound
   miss-answers = go (lowestUnused p) refl
     where
-      chosen : (f : Found) → lowestUnused p ≡ Nothing → choiceOf p .found ≡ f → Accepted p (missOf p page write pin) ⊎ ((missOf p page write pin ≡ refusal p noFrame) × EveryPinned p)
+      chosen : (f : Found) → lowestUnused p ≡ Nothing → choiceOf p .found ≡ f → Accepted p (missOf p page write pin) ⊎ NoneFound
       chosen (At v) none e =
           inl (subst (Accepted p) (sym (full p page write pin none ∙ victim p page write pin (choiceOf p) v refl e)) (leaving-accepted p (leftBy p (choiceOf p)) v page write pin refl))
-      chosen Nothing none e = inr (full p page write pin none ∙ no-victim p page write pin e, every-pinned p none e)
+      chosen Nothing none e = inr (full p page write pin none ∙ no-victim p page write pin e, none, e)
 
-      go : (f : Found) → lowestUnused p ≡ f → Accepted p (missOf p page write pin) ⊎ ((missOf p page write pin ≡ refusal p noFrame) × EveryPinned p)
+      go : (f : Found) → lowestUnused p ≡ f → Accepted p (missOf p page write pin) ⊎ NoneFound
       go (At i) e = inl (subst (Accepted p) (sym (free p page write pin i e)) (record { outcome = omega arith; k = filled-k p p i page write pin refl }))
       go Nothing e = chosen (choiceOf p .found) e refl
 
-  pub miss-refused : EveryPinned p → missOf p page write pin ≡ refusal p noFrame
-  unfolding lowestUnused
-  miss-refused h =
-      full p page write pin (least-none-of (unused (p .frames)) never (p .settings .frames) (λ i l. ap not (h i l .0)))
-      ∙ no-victim p page write pin (choice-owes .none p .1 (λ i l. h i l .1))
+  -- in a sound pool that is where every frame below f is in use and pinned
+  module _ (s : Sound p) where
+    pub none-pinned : NoneFound → EveryPinned p
+    none-pinned n i l = (none-unused p (n .1) i l, choice-serves p s .0 (n .2) i l)
+
+    pub miss-refused : EveryPinned p → missOf p page write pin ≡ refusal p noFrame
+    unfolding lowestUnused
+    miss-refused h =
+        full p page write pin (least-none-of (unused (p .frames)) never (p .settings .frames) (λ i l. ap not (h i l .0)))
+        ∙ no-victim p page write pin (choice-serves p s .1 (λ i l. h i l .1))
 
 -- a read, a write or a pin
 pub kind-reference : (p : Pool) (page kind : ℕ) → kind ≤ 2 → recordOf p page kind ≡ referenceOf p page (eqb kind 1) (eqb kind 2)
@@ -107,14 +113,14 @@ module _ (p : Pool) (page kind : ℕ) (l : kind ≤ 2) where
       as-miss = kind-reference p page kind l ∙ absent p page (eqb kind 1) (eqb kind 2) (lt-leb referenceLimit (p .k) room) a
 
       -- within the reference limit a missed page is refused for want of a frame exactly when every frame is pinned
-      pub no-frame-only : recordOf p page kind .row .outcome ≡ refusedBy noFrame → EveryPinned p
-      no-frame-only h = ⊎-elim {C = EveryPinned p} (λ q. absurd (low q)) (λ q. q .1) (miss-answers p page (eqb kind 1) (eqb kind 2))
+      pub no-frame-only : Sound p → recordOf p page kind .row .outcome ≡ refusedBy noFrame → EveryPinned p
+      no-frame-only s h = ⊎-elim {C = EveryPinned p} (λ q. absurd (low q)) (none-pinned p page (eqb kind 1) (eqb kind 2) s) (miss-answers p page (eqb kind 1) (eqb kind 2))
         where
           low : Accepted p (missOf p page (eqb kind 1) (eqb kind 2)) → ⊥
           low q = let n = q .outcome in let m = sym (ap (λ (d : Did). d .row .outcome) as-miss) ∙ h in omega arith
 
-      pub no-frame-where : EveryPinned p → recordOf p page kind ≡ refusal p noFrame
-      no-frame-where h = as-miss ∙ miss-refused p page (eqb kind 1) (eqb kind 2) h
+      pub no-frame-where : Sound p → EveryPinned p → recordOf p page kind ≡ refusal p noFrame
+      no-frame-where s h = as-miss ∙ miss-refused p page (eqb kind 1) (eqb kind 2) s h
 
       -- and otherwise it is accepted
       pub miss-accepted : (recordOf p page kind .row .outcome ≡ refusedBy noFrame → ⊥) → Accepted p (recordOf p page kind)

@@ -21,9 +21,9 @@ use Rattle.reference.specs.Reference.{hitAt, fetchedAt, pinnedAt, unpinnedAt}
 use Rattle.reference.proofs.Others.{hit-other, fetch-other, pin-other, unpin-other}
 use Rattle.reference.proofs.Referred.{hit-dirty, fetch-dirty, pin-dirty, unpin-dirty}
 use Rattle.victim.specs.Choice.{unpinned}
-use Rattle.victim.specs.Rules.{choiceOf}
+use Rattle.victim.specs.Rules.{choiceOf, batchOrder}
 use Rattle.victim.proofs.Rules.{choice-owes}
-use Rattle.batch.specs.Batch.{batchOrder, waits, batchOf, cleanFrame, cleaned}
+use Rattle.batch.specs.Batch.{waits, batchOf, cleanFrame, cleaned}
 use Rattle.batch.proofs.Taken.{Distinct, Chosen}
 use Rattle.batch.proofs.Laws.{others, others-chosen, batch-clean, batch-dirty, batch-order}
 use Rattle.effect.specs.Record.{dirtyIn}

@@ -15,7 +15,8 @@ use Rattle.search.proofs.Every.{pick-ind}
 use Rattle.settings.specs.declared.Settings.{Settings}
 use Rattle.settings.proofs.Laws.{ranges}
 use Rattle.pool.specs.declared.Pool.{Pool}
-use Rattle.pool.specs.Pool.{referenceLimit, frameAt, withFrames}
+use Rattle.limit.specs.Limits.{referenceLimit}
+use Rattle.pool.specs.Pool.{frameAt, withFrames}
 use Rattle.pool.proofs.Sound.{Sound, made}
 use Rattle.pool.proofs.Sizes.{Sized}
 use Rattle.pool.proofs.Quiet.{Quiet}
@@ -29,7 +30,7 @@ use Rattle.victim.proofs.Rules.{choice-owes, choice-sized}
 use Rattle.batch.specs.Batch.{batchOf, cleaned}
 use Rattle.batch.proofs.Cleaned.{pages-length}
 use Rattle.batch.proofs.Laws.{batch-length, cleaned-quiet, batch-sound, batch-sized}
-use Rattle.tally.specs.Rows.{row, hit, missUnused, unpinned}
+use Rattle.tally.specs.Rows.{row, hit, missUnused, unpinDone}
 use Rattle.effect.specs.Record.{Did, did, pinLimit, pinsAt, refusal, pinnedWhere, filled, hitOf, leavingOf, evictionOf, missOf, referenceOf, unpinOf, recordOf, dirtyIn}
 use Rattle.effect.proofs.Ways.{unused-few, at-limit, resident, absent, free, full, victim, no-victim, unpin-absent, unpin-none, unpin-one}
 use Rattle.effect.proofs.Dirty.{hit-spent, fetch-spent, pin-spent, unpin-spent, choice-spent, batch-spent}
@@ -170,7 +171,7 @@ module _ (p : Pool) (s : Sound p) (z : Sized p) (page : ℕ) where
       pinned false i a e =
           let u = find-used p s page i a in
           subst (Kept p 0) (sym (unpin-one p page i a e))
-          (unwritten-kept p s z 0 unpinned i (unpinnedAt p i) (unpinned-held p s z i (u .0) (u .1)))
+          (unwritten-kept p s z 0 unpinDone i (unpinnedAt p i) (unpinned-held p s z i (u .0) (u .1)))
 
       go : (f : Found) → findPage (p .frames) page ≡ f → Kept p 0 (unpinOf p page)
       go (At i) a = pinned (eqb (pinsAt p i) 0) i a refl

@@ -10,36 +10,28 @@ use lib.Dec.{eqb}
 use Rattle.search.specs.Search.{pick}
 use Rattle.pool.specs.declared.Frame.{Frame}
 use Rattle.pool.specs.declared.Pool.{Pool}
-use Rattle.pool.specs.Pool.{emptyFrame, frameAt, epochAt, nowOf, withCount}
+use Rattle.pool.specs.Pool.{emptyFrame, frameAt, epochAt, nowOf, withCount, withPins, withFrames}
 use Rattle.pool.proofs.Sizes.{Sized}
 use Rattle.table.specs.declared.Head.{Head}
-use Rattle.table.specs.Table.{headOf}
+use Rattle.table.specs.Table.{headOf, poolWith}
 use Rattle.reference.specs.Logs.{cleared, lengthWith, logWith}
-use Rattle.reference.specs.Reference.{withPins, raised, newFrame, referred, hitAt, fetchedAt, pinnedAt, unpinnedAt}
+use Rattle.reference.specs.Reference.{raised, newFrame, referred, hitAt, fetchedAt, pinnedAt, unpinnedAt}
 use Rattle.tally.specs.declared.Row.{Row}
-use Rattle.tally.specs.Rows.{row, hit, missUnused, missClean, missDirty, unpinned}
+use Rattle.tally.specs.Rows.{row, hit, missUnused, missClean, missDirty, unpinDone}
 use Rattle.effect.specs.Record.{pinLimit, pinsAt, pinnedWhere, filled}
+use Rattle.effect.specs.declared.Asked.{Asked}
 use Rattle.effect.specs.ForCode.{pinsWith, hitFrame, fetchedFrame, unpinnedFrame, byOutcome, withStep, withLengths, enteredAt, hitIn, fetchedIn, entered}
 
 module _ (p : Pool) (z : Sized p) (i : ℕ) (l : i < 128) where
   own : (g : Frame) → frameAt (set (p .frames) i g) i ≡ g
   own g = getD-set-same (p .frames) i g emptyFrame (rw (z .frames) l)
 
-  -- a frame that is hit, one that is fetched into
+  -- a frame that is hit, one that is fetched into, before it is pinned
   abbrev hitOn : Bool → Frame
-  hitOn write = record {
-    used = frameAt (p .frames) i .used;
-    page = frameAt (p .frames) i .page;
-    dirty = frameAt (p .frames) i .dirty || write;
-    pins = frameAt (p .frames) i .pins;
-    count = raised (p .settings .cap) (frameAt (p .frames) i .count);
-    last = p .k;
-    accesses = frameAt (p .frames) i .accesses;
-    writes = frameAt (p .frames) i .writes;
-  }
+  hitOn write = hitFrame (frameAt (p .frames) i) write false (p .settings .cap) (p .k)
 
   abbrev fetchOn : ℕ → Bool → Frame
-  fetchOn page write = record { used = true; page = page; dirty = write; pins = 0; count = 1; last = p .k; accesses = 0; writes = 0 }
+  fetchOn page write = fetchedFrame page write false (p .k)
 
   hit-placed : (write : Bool) → hitAt p i write ≡ enteredAt p i (hitOn write) (p .access) (p .write) write
   unfolding hitAt referred nowOf
@@ -64,32 +56,32 @@ module _ (p : Pool) (z : Sized p) (i : ℕ) (l : i < 128) where
   pinned-placed q g access write on false t e = e
 
   -- a record's frame
-  pub entered-hit : (page kind : ℕ) → (eqb kind 2 && eqb (pinsAt p i) pinLimit) ≡ false → entered p (row hit i 0 0) page kind ≡ pinnedWhere (hitAt p i (eqb kind 1)) (eqb kind 2) i
+  pub entered-hit : (page : ℕ) (asks : Asked) → (asks .pin && eqb (pinsAt p i) pinLimit) ≡ false → entered p (row hit i 0 0) page asks ≡ pinnedWhere (hitAt p i (asks .write)) (asks .pin) i
   unfolding entered hitIn
-  entered-hit page kind t = sym (pinned-placed (hitAt p i (eqb kind 1)) (hitOn (eqb kind 1)) (p .access) (p .write) (eqb kind 1) (eqb kind 2) t (hit-placed (eqb kind 1)))
+  entered-hit page asks t = sym (pinned-placed (hitAt p i (asks .write)) (hitOn (asks .write)) (p .access) (p .write) (asks .write) (asks .pin) t (hit-placed (asks .write)))
 
   none-pinned : (pin : Bool) → (pin && eqb 0 pinLimit) ≡ false
   none-pinned true = refl
   none-pinned false = refl
 
-  filled-placed : (page kind : ℕ) → filled p i page (eqb kind 1) (eqb kind 2) ≡ fetchedIn p i page kind
+  filled-placed : (page : ℕ) (asks : Asked) → filled p i page (asks .write) (asks .pin) ≡ fetchedIn p i page (asks .write) (asks .pin)
   unfolding fetchedIn
-  filled-placed page kind =
-      pinned-placed (fetchedAt p i page (eqb kind 1)) (fetchOn page (eqb kind 1)) (cleared (p .access) (i * 8) 8) (cleared (p .write) (i * 4) 4) (eqb kind 1) (eqb kind 2) (none-pinned (eqb kind 2))
-      (fetch-placed page (eqb kind 1))
+  filled-placed page asks =
+      pinned-placed (fetchedAt p i page (asks .write)) (fetchOn page (asks .write)) (cleared (p .access) (i * 8) 8) (cleared (p .write) (i * 4) 4) (asks .write) (asks .pin) (none-pinned (asks .pin))
+      (fetch-placed page (asks .write))
 
-  pub entered-free : (page kind : ℕ) → entered p (row missUnused i 0 0) page kind ≡ filled p i page (eqb kind 1) (eqb kind 2)
+  pub entered-free : (page : ℕ) (asks : Asked) → entered p (row missUnused i 0 0) page asks ≡ filled p i page (asks .write) (asks .pin)
   unfolding entered
-  entered-free page kind = sym (filled-placed page kind)
+  entered-free page asks = sym (filled-placed page asks)
 
-  pub entered-left : (dirty : Bool) (left batch page kind : ℕ) → entered p (row (pick dirty missDirty missClean) i left batch) page kind ≡ filled p i page (eqb kind 1) (eqb kind 2)
+  pub entered-left : (dirty : Bool) (left batch page : ℕ) (asks : Asked) → entered p (row (pick dirty missDirty missClean) i left batch) page asks ≡ filled p i page (asks .write) (asks .pin)
   unfolding entered
-  entered-left true left batch page kind = sym (filled-placed page kind)
-  entered-left false left batch page kind = sym (filled-placed page kind)
+  entered-left true left batch page asks = sym (filled-placed page asks)
+  entered-left false left batch page asks = sym (filled-placed page asks)
 
-pub entered-unpin : (p : Pool) (i page kind : ℕ) → entered p (row unpinned i 0 0) page kind ≡ unpinnedAt p i
+pub entered-unpin : (p : Pool) (i page : ℕ) (asks : Asked) → entered p (row unpinDone i 0 0) page asks ≡ unpinnedAt p i
 unfolding entered
-entered-unpin p i page kind = refl
+entered-unpin p i page asks = refl
 
 -- by outcome
 by-fetch : {A : Type 0} (n : ℕ) (a b c d : A) → 1 ≤ n → n ≤ 3 → b ≡ byOutcome n a b c d
@@ -108,33 +100,33 @@ by-none (suc (suc (suc (suc zero)))) a b c d l = absurd (omega arith)
 by-none (suc (suc (suc (suc (suc n))))) a b c d l = refl
 
 -- what the ways through `enter` leave
-module _ (p q : Pool) (w : Row) (page kind : ℕ) where
-  pub way-hit : w .outcome ≡ 0 → q ≡ hitIn p (w .frame) kind → q ≡ entered p w page kind
+module _ (p q : Pool) (w : Row) (page : ℕ) (asks : Asked) where
+  pub way-hit : w .outcome ≡ 0 → q ≡ hitIn p (w .frame) (asks .write) (asks .pin) → q ≡ entered p w page asks
   unfolding entered
   way-hit e h = h ∙ rw e
 
-  pub way-fetch : 1 ≤ w .outcome → w .outcome ≤ 3 → q ≡ fetchedIn p (w .frame) page kind → q ≡ entered p w page kind
+  pub way-fetch : 1 ≤ w .outcome → w .outcome ≤ 3 → q ≡ fetchedIn p (w .frame) page (asks .write) (asks .pin) → q ≡ entered p w page asks
   unfolding entered
-  way-fetch l m h = h ∙ by-fetch (w .outcome) (hitIn p (w .frame) kind) (fetchedIn p (w .frame) page kind) (unpinnedAt p (w .frame)) p l m
+  way-fetch l m h = h ∙ by-fetch (w .outcome) (hitIn p (w .frame) (asks .write) (asks .pin)) (fetchedIn p (w .frame) page (asks .write) (asks .pin)) (unpinnedAt p (w .frame)) p l m
 
-  pub way-unpin : w .outcome ≡ 4 → q ≡ unpinnedAt p (w .frame) → q ≡ entered p w page kind
+  pub way-unpin : w .outcome ≡ 4 → q ≡ unpinnedAt p (w .frame) → q ≡ entered p w page asks
   unfolding entered
   way-unpin e h = h ∙ rw e
 
   -- a refused record changes nothing
-  pub way-none : 5 ≤ w .outcome → q ≡ p → q ≡ entered p w page kind
+  pub way-none : 5 ≤ w .outcome → q ≡ p → q ≡ entered p w page asks
   unfolding entered
-  way-none l h = h ∙ by-none (w .outcome) (hitIn p (w .frame) kind) (fetchedIn p (w .frame) page kind) (unpinnedAt p (w .frame)) p l
+  way-none l h = h ∙ by-none (w .outcome) (hitIn p (w .frame) (asks .write) (asks .pin)) (fetchedIn p (w .frame) page (asks .write) (asks .pin)) (unpinnedAt p (w .frame)) p l
 
-pub entered-none : (p : Pool) (n page kind : ℕ) → 5 ≤ n → entered p (row n 0 0 0) page kind ≡ p
-entered-none p n page kind l = sym (way-none p p (row n 0 0 0) page kind l refl)
+pub entered-none : (p : Pool) (n page : ℕ) (asks : Asked) → 5 ≤ n → entered p (row n 0 0 0) page asks ≡ p
+entered-none p n page asks l = sym (way-none p p (row n 0 0 0) page asks l refl)
 
 -- and none changes the settings
-pub entered-settings : (p : Pool) (w : Row) (page kind : ℕ) → entered p w page kind .settings ≡ p .settings
+pub entered-settings : (p : Pool) (w : Row) (page : ℕ) (asks : Asked) → entered p w page asks .settings ≡ p .settings
 unfolding entered hitIn fetchedIn unpinnedAt
-entered-settings p w page kind = go (w .outcome)
+entered-settings p w page asks = go (w .outcome)
   where
-    go : (n : ℕ) → byOutcome n (hitIn p (w .frame) kind) (fetchedIn p (w .frame) page kind) (unpinnedAt p (w .frame)) p .settings ≡ p .settings
+    go : (n : ℕ) → byOutcome n (hitIn p (w .frame) (asks .write) (asks .pin)) (fetchedIn p (w .frame) page (asks .write) (asks .pin)) (unpinnedAt p (w .frame)) p .settings ≡ p .settings
     go zero = refl
     go (suc zero) = refl
     go (suc (suc zero)) = refl
@@ -147,26 +139,23 @@ pub unpinned-none : (fr : Frame) → fr .pins ≤ 0 → fr ≡ unpinnedFrame fr
 unpinned-none fr l = let e : fr .pins ≡ fr .pins - 1 = omega arith in ap (withPins fr) e
 
 -- what the code leaves of a pool: a reference in frame i, with its logs as they are or emptied
-module _ (p : Pool) (i kind epoch : ℕ) (g : Head) (e : epoch ≡ epochAt (p .settings) (p .k)) (q : g ≡ withStep (headOf p)) where
-  abbrev leaves : List Frame → List ℕ → List ℕ → Pool
-  leaves fs a b = record { settings = g .settings; k = g .k; hand = g .hand; sampler = g .sampler; frames = fs; access = a; write = b }
-
-  pub hit-left : (old fr : Frame) (n m : ℕ) (a b : List ℕ) (fs : List Frame) → old ≡ frameAt (p .frames) i → fr ≡ hitFrame old kind (p .settings .cap) (p .k)
+module _ (p : Pool) (i : ℕ) (write pin : Bool) (epoch : ℕ) (g : Head) (e : epoch ≡ epochAt (p .settings) (p .k)) (q : g ≡ withStep (headOf p)) where
+  pub hit-left : (old fr : Frame) (n m : ℕ) (a b : List ℕ) (fs : List Frame) → old ≡ frameAt (p .frames) i → fr ≡ hitFrame old write pin (p .settings .cap) (p .k)
       → (n ≡ lengthWith (p .access) (i * 8) 8 (fr .accesses) epoch true) × (a ≡ logWith (p .access) (i * 8) 8 (fr .accesses) epoch true)
-      → (m ≡ lengthWith (p .write) (i * 4) 4 (fr .writes) epoch (eqb kind 1)) × (b ≡ logWith (p .write) (i * 4) 4 (fr .writes) epoch (eqb kind 1))
-      → fs ≡ set (p .frames) i (withLengths fr n m) → leaves fs a b ≡ hitIn p i kind
+      → (m ≡ lengthWith (p .write) (i * 4) 4 (fr .writes) epoch write) × (b ≡ logWith (p .write) (i * 4) 4 (fr .writes) epoch write)
+      → fs ≡ set (p .frames) i (withLengths fr n m) → poolWith g fs a b ≡ hitIn p i write pin
   unfolding hitIn nowOf
   hit-left old fr n m a b fs d h x y f = rw (q, f, x .0, x .1, y .0, y .1, h, d, e)
 
-  pub fetch-left : (fr : Frame) (page n m : ℕ) (c d a b : List ℕ) (fs : List Frame) → fr ≡ fetchedFrame page kind (p .k) → c ≡ cleared (p .access) (i * 8) 8 → d ≡ cleared (p .write) (i * 4) 4
+  pub fetch-left : (fr : Frame) (page n m : ℕ) (c d a b : List ℕ) (fs : List Frame) → fr ≡ fetchedFrame page write pin (p .k) → c ≡ cleared (p .access) (i * 8) 8 → d ≡ cleared (p .write) (i * 4) 4
       → (n ≡ lengthWith c (i * 8) 8 0 epoch true) × (a ≡ logWith c (i * 8) 8 0 epoch true)
-      → (m ≡ lengthWith d (i * 4) 4 0 epoch (eqb kind 1)) × (b ≡ logWith d (i * 4) 4 0 epoch (eqb kind 1))
-      → fs ≡ set (p .frames) i (withLengths fr n m) → leaves fs a b ≡ fetchedIn p i page kind
+      → (m ≡ lengthWith d (i * 4) 4 0 epoch write) × (b ≡ logWith d (i * 4) 4 0 epoch write)
+      → fs ≡ set (p .frames) i (withLengths fr n m) → poolWith g fs a b ≡ fetchedIn p i page write pin
   unfolding fetchedIn nowOf
   fetch-left fr page n m c d a b fs h u v x y f = rw (q, f, x .0, x .1, y .0, y .1, h, u, v, e)
 
 -- a frame that is hit has its logs' lengths
-module _ (fs : List Frame) (i kind cap k : ℕ) (old fr : Frame) (d : old ≡ frameAt fs i) (h : fr ≡ hitFrame old kind cap k) where
+module _ (fs : List Frame) (i : ℕ) (write pin : Bool) (cap k : ℕ) (old fr : Frame) (d : old ≡ frameAt fs i) (h : fr ≡ hitFrame old write pin cap k) where
   pub hit-accesses : fr .accesses ≡ frameAt fs i .accesses
   hit-accesses = rw (h, d)
 
@@ -174,7 +163,6 @@ module _ (fs : List Frame) (i kind cap k : ℕ) (old fr : Frame) (d : old ≡ fr
   hit-writes = rw (h, d)
 
 -- and an unpin
-pub unpin-left : (p : Pool) (i : ℕ) (fs : List Frame) → fs ≡ set (p .frames) i (unpinnedFrame (frameAt (p .frames) i))
-    → _≡_ {A = Pool} (record { settings = p .settings; k = p .k; hand = p .hand; sampler = p .sampler; frames = fs; access = p .access; write = p .write }) (unpinnedAt p i)
+pub unpin-left : (p : Pool) (i : ℕ) (fs : List Frame) → fs ≡ set (p .frames) i (unpinnedFrame (frameAt (p .frames) i)) → withFrames p fs ≡ unpinnedAt p i
 unfolding unpinnedAt
 unpin-left p i fs e = rw e

@@ -10,13 +10,14 @@ use Rattle.search.specs.declared.Found.the-variants.{At, Nothing}
 use Rattle.refusal.specs.Refusals.{badField, noReferenceLeft, notPinned, pinsFull}
 use Rattle.pool.specs.declared.Frame.{Frame}
 use Rattle.pool.specs.declared.Pool.{Pool}
-use Rattle.pool.specs.Pool.{referenceLimit}
+use Rattle.limit.specs.Limits.{referenceLimit}
 use Rattle.pool.specs.Sound.{soundPool}
 use Rattle.reference.specs.Search.{findPage, lowestUnused}
 use Rattle.tally.specs.declared.Row.{Row}
-use Rattle.tally.specs.Rows.{row, hit, missUnused, missClean, unpinned, refusedRow}
+use Rattle.tally.specs.Rows.{row, hit, missUnused, missClean, unpinDone, refusedRow}
 use Rattle.effect.specs.Record.{pinLimit, pinsAt}
-use Rattle.effect.specs.ForCode.{Framed, settledHit, settledMiss, settledReference, settledUnpin, settledBy, placeOf}
+use Rattle.effect.specs.declared.Asked.{Asked}
+use Rattle.effect.specs.ForCode.{Framed, settledHit, settledMiss, settledReference, settledUnpin, asked, askedBy, settledBy, placeOf}
 use Rattle.effect.proofs.Ways.{found-few, unused-few}
 
 -- a row that is settled so, in a frame
@@ -60,35 +61,31 @@ module _ (k pins : ℕ) (found free : Found) (w : Row) where
   unfolding settledUnpin
   unpin-free i a t e = settles w (refusedRow notPinned) (settledUnpin found pins) e (omega arith) (rw (a, t))
 
-  pub unpin-held : (i : ℕ) → found ≡ At i → eqb pins 0 ≡ false → i < 128 → w ≡ row unpinned i 0 0 → Settles w (settledUnpin found pins)
+  pub unpin-held : (i : ℕ) → found ≡ At i → eqb pins 0 ≡ false → i < 128 → w ≡ row unpinDone i 0 0 → Settles w (settledUnpin found pins)
   unfolding settledUnpin
-  unpin-held i a t l e = settles w (row unpinned i 0 0) (settledUnpin found pins) e l (rw (a, t))
+  unpin-held i a t l e = settles w (row unpinDone i 0 0) (settledUnpin found pins) e l (rw (a, t))
 
-  -- the kinds
-  reference-kind : (kind : ℕ) → kind ≤ 2 → settledReference k found pins free (eqb kind 2) ≡ settledBy k found pins free kind
-  unfolding settledBy
-  reference-kind zero l = refl
-  reference-kind (suc zero) l = refl
-  reference-kind (suc (suc zero)) l = refl
-  reference-kind (suc (suc (suc kind))) l = absurd (omega arith)
+  -- by what is asked for
+  module _ (asks : Asked) where
+    pub settle-reference : asks .reference ≡ true → Settles w (settledReference k found pins free (asks .pin)) → Settles w (settledBy k found pins free asks)
+    unfolding settledBy
+    settle-reference t e = (e .0 ∙ rw t, e .1)
 
-  pub settle-reference : (kind : ℕ) → kind ≤ 2 → Settles w (settledReference k found pins free (eqb kind 2)) → Settles w (settledBy k found pins free kind)
-  settle-reference kind l e = (e .0 ∙ reference-kind kind l, e .1)
+    pub settle-unpin : asks .reference ≡ false → asks .unpin ≡ true → Settles w (settledUnpin found pins) → Settles w (settledBy k found pins free asks)
+    unfolding settledBy
+    settle-unpin f t e = (e .0 ∙ rw (f, t), e .1)
 
-  pub settle-unpin : (kind : ℕ) → kind ≡ 3 → Settles w (settledUnpin found pins) → Settles w (settledBy k found pins free kind)
-  unfolding settledBy
-  settle-unpin kind e h = (h .0 ∙ rw e, h .1)
+    pub settle-bad : asks .reference ≡ false → asks .unpin ≡ false → w ≡ refusedRow badField → Settles w (settledBy k found pins free asks)
+    unfolding settledBy
+    settle-bad f t e = settles w (refusedRow badField) (settledBy k found pins free asks) e (omega arith) (rw (f, t))
 
-  bad : (kind : ℕ) → 4 ≤ kind → settledBy k found pins free kind ≡ refusedRow badField
-  unfolding settledBy
-  bad zero l = absurd (omega arith)
-  bad (suc zero) l = absurd (omega arith)
-  bad (suc (suc zero)) l = absurd (omega arith)
-  bad (suc (suc (suc zero))) l = absurd (omega arith)
-  bad (suc (suc (suc (suc kind)))) l = refl
-
-  pub settle-bad : (kind : ℕ) → 4 ≤ kind → w ≡ refusedRow badField → Settles w (settledBy k found pins free kind)
-  settle-bad kind l e = settles w (refusedRow badField) (settledBy k found pins free kind) e (omega arith) (sym (bad kind l))
+-- a bad kind asks for nothing
+pub asked-bad : (kind : ℕ) → 4 ≤ kind → askedBy kind ≡ asked false false false false
+asked-bad zero l = absurd (omega arith)
+asked-bad (suc zero) l = absurd (omega arith)
+asked-bad (suc (suc zero)) l = absurd (omega arith)
+asked-bad (suc (suc (suc zero))) l = absurd (omega arith)
+asked-bad (suc (suc (suc (suc kind)))) l = refl
 
 -- what was found in a sound pool is a frame
 pub found-framed : (fs : List Frame) (page : ℕ) (found : Found) → found ≡ findPage fs page → Framed found
@@ -99,9 +96,9 @@ free-framed p free s e i h = unused-few p i s (sym e ∙ h)
 
 -- the row, but where a victim is wanted
 abbrev pub settledOf : Pool → ℕ → ℕ → Row
-settledOf p page kind = settledBy (p .k) (findPage (p .frames) page) (pinsAt p (placeOf (findPage (p .frames) page))) (lowestUnused p) kind
+settledOf p page kind = settledBy (p .k) (findPage (p .frames) page) (pinsAt p (placeOf (findPage (p .frames) page))) (lowestUnused p) (askedBy kind)
 
 -- the row of a record from what was found in its pool
-pub settled-is : (p : Pool) (page kind pins : ℕ) (found free : Found) (w : Row) → found ≡ findPage (p .frames) page → free ≡ lowestUnused p → pins ≡ pinsAt p (placeOf found)
-    → w ≡ settledBy (p .k) found pins free kind → w ≡ settledOf p page kind
-settled-is p page kind pins found free w a b c e = e ∙ rw (c, b, a)
+pub settled-is : (p : Pool) (page kind pins : ℕ) (asks : Asked) (found free : Found) (w : Row) → asks ≡ askedBy kind → found ≡ findPage (p .frames) page → free ≡ lowestUnused p
+    → pins ≡ pinsAt p (placeOf found) → w ≡ settledBy (p .k) found pins free asks → w ≡ settledOf p page kind
+settled-is p page kind pins asks found free w q a b c e = e ∙ rw (c, b, a, q)

@@ -12,14 +12,14 @@ use Rattle.settings.proofs.Laws.{ranges}
 use Rattle.refusal.specs.Refusals.{noReferenceLeft, noFrame, notPinned, pinsFull}
 use Rattle.pool.specs.declared.Frame.{Frame}
 use Rattle.pool.specs.declared.Pool.{Pool}
-use Rattle.pool.specs.Pool.{referenceLimit}
+use Rattle.limit.specs.Limits.{referenceLimit}
 use Rattle.pool.specs.Sound.{soundPool}
 use Rattle.pool.proofs.Sound.{told}
 use Rattle.reference.specs.Search.{has, findPage, unused, lowestUnused}
 use Rattle.reference.specs.Reference.{hitAt, unpinnedAt}
 use Rattle.victim.specs.Choice.{Choice, leftBy}
 use Rattle.victim.specs.Rules.{choiceOf}
-use Rattle.tally.specs.Rows.{row, hit, missUnused, unpinned}
+use Rattle.tally.specs.Rows.{row, hit, missUnused, unpinDone}
 use Rattle.effect.specs.Record.{did, pinLimit, pinsAt, refusal, pinnedWhere, filled, hitOf, leavingOf, evictionOf, missOf, referenceOf, unpinOf}
 
 module _ (p : Pool) (page : ℕ) (write pin : Bool) where
@@ -69,7 +69,7 @@ module _ (p : Pool) (page : ℕ) where
   unfolding unpinOf
   unpin-none i a e = rw (a, e)
 
-  pub unpin-one : (i : ℕ) → findPage (p .frames) page ≡ At i → eqb (pinsAt p i) 0 ≡ false → unpinOf p page ≡ did (row unpinned i 0 0) [] (unpinnedAt p i)
+  pub unpin-one : (i : ℕ) → findPage (p .frames) page ≡ At i → eqb (pinsAt p i) 0 ≡ false → unpinOf p page ≡ did (row unpinDone i 0 0) [] (unpinnedAt p i)
   unfolding unpinOf
   unpin-one i a e = rw (a, e)
 

@@ -13,18 +13,20 @@ use Rattle.search.specs.Search.{pick, onFound}
 use Rattle.refusal.specs.Refusals.{badField, noReferenceLeft, noFrame, notPinned, pinsFull}
 use Rattle.pool.specs.declared.Frame.{Frame}
 use Rattle.pool.specs.declared.Pool.{Pool}
-use Rattle.pool.specs.Pool.{referenceLimit, accessRoom, writeRoom, frameAt, nowOf}
+use Rattle.limit.specs.Limits.{referenceLimit}
+use Rattle.pool.specs.Pool.{accessRoom, writeRoom, frameAt, withDirty, withPins, withCount, withLast, withAccesses, withWrites, withK, withFrames, withAccess, withWrite, withFrame, nowOf}
 use Rattle.pool.specs.Sound.{soundPool}
 use Rattle.table.specs.declared.Head.{Head}
-use Rattle.table.specs.Table.{poolIn}
+use Rattle.table.specs.Table.{headWithSettings, headWithK, poolIn}
 use Rattle.reference.specs.ForCode.{RestZero}
 use Rattle.reference.specs.Logs.{cleared, lengthWith, logWith}
-use Rattle.reference.specs.Reference.{raised, withPins, unpinnedAt}
+use Rattle.reference.specs.Reference.{raised, newFrame, unpinnedAt}
 use Rattle.victim.specs.Choice.{leftBy}
 use Rattle.victim.specs.Rules.{choiceOf}
 use Rattle.batch.specs.Batch.{batchOf, cleaned, pagesOf}
 use Rattle.tally.specs.declared.Row.{Row}
-use Rattle.tally.specs.Rows.{row, hit, missUnused, missClean, missDirty, unpinned, refusedRow}
+use Rattle.tally.specs.Rows.{row, hit, missUnused, missClean, missDirty, unpinDone, refusedRow}
+use Rattle.effect.specs.declared.Asked.{Asked}
 use Rattle.effect.specs.declared.Worked.{Worked}
 use Rattle.effect.specs.Record.{Did, pinLimit}
 
@@ -71,15 +73,25 @@ settledReference k found pins free pin = pick (leb referenceLimit k) (refusedRow
 
 -- an unpin
 unfoldable pub settledUnpin : Found → ℕ → Row
-settledUnpin found pins = onFound found (λ i. pick (eqb pins 0) (refusedRow notPinned) (row unpinned i 0 0)) (refusedRow notPinned)
+settledUnpin found pins = onFound found (λ i. pick (eqb pins 0) (refusedRow notPinned) (row unpinDone i 0 0)) (refusedRow notPinned)
+
+-- a reference or an unpin, or neither; with a write, with a pin
+abbrev pub asked : Bool → Bool → Bool → Bool → Asked
+asked reference unpin write pin = record { reference = reference; unpin = unpin; write = write; pin = pin }
+
+-- what a kind asks for: a bad one, nothing
+abbrev pub askedBy : ℕ → Asked
+askedBy zero = asked true false false false
+askedBy (suc zero) = asked true false true false
+askedBy (suc (suc zero)) = asked true false false true
+askedBy (suc (suc (suc zero))) = asked false true false false
+askedBy (suc (suc (suc (suc kind)))) = asked false false false false
 
 -- the row, but where a victim is wanted, from the frame in which the page was found, its pins, and the lowest unused frame
-unfoldable pub settledBy : ℕ → Found → ℕ → Found → ℕ → Row
-settledBy k found pins free zero = settledReference k found pins free false
-settledBy k found pins free (suc zero) = settledReference k found pins free false
-settledBy k found pins free (suc (suc zero)) = settledReference k found pins free true
-settledBy k found pins free (suc (suc (suc zero))) = settledUnpin found pins
-settledBy k found pins free (suc (suc (suc (suc kind)))) = refusedRow badField
+unfoldable pub settledBy : ℕ → Found → ℕ → Found → Asked → Row
+settledBy k found pins free asks =
+    pick (asks .reference) (settledReference k found pins free (asks .pin))
+    (pick (asks .unpin) (settledUnpin found pins) (refusedRow badField))
 
 -- the frame in which a page was found, or 0
 abbrev pub placeOf : Found → ℕ
@@ -100,7 +112,7 @@ module _ (p : Pool) where
 
   -- the pool with room
   abbrev pub roomed : Pool
-  roomed = record { settings = p .settings; k = p .k; hand = choiceOf p .hand; sampler = choiceOf p .sampler; frames = roomFrames; access = p .access; write = p .write }
+  roomed = withFrames (leftBy p (choiceOf p)) roomFrames
 
 -- what making room leaves
 pub record RoomMade (p : Pool) (at : ℕ) (r : Worked) (t before after : List ℕ) : Type 0 where
@@ -142,21 +154,12 @@ abbrev pub pinsWith : Bool → ℕ → ℕ
 pinsWith pin n = pick (pin && not (eqb n pinLimit)) (n + 1) n
 
 -- a frame that is hit, but for its logs
-abbrev pub hitFrame : Frame → ℕ → ℕ → ℕ → Frame
-hitFrame fr kind cap k = record {
-  used = fr .used;
-  page = fr .page;
-  dirty = fr .dirty || eqb kind 1;
-  pins = pinsWith (eqb kind 2) (fr .pins);
-  count = raised cap (fr .count);
-  last = k;
-  accesses = fr .accesses;
-  writes = fr .writes;
-}
+abbrev pub hitFrame : Frame → Bool → Bool → ℕ → ℕ → Frame
+hitFrame fr write pin cap k = withLast (withCount (withPins (withDirty fr (fr .dirty || write)) (pinsWith pin (fr .pins))) (raised cap (fr .count))) k
 
 -- a frame with a page that is fetched, but for its logs
-abbrev pub fetchedFrame : ℕ → ℕ → ℕ → Frame
-fetchedFrame page kind k = record { used = true; page = page; dirty = eqb kind 1; pins = pinsWith (eqb kind 2) 0; count = 1; last = k; accesses = 0; writes = 0 }
+abbrev pub fetchedFrame : ℕ → Bool → Bool → ℕ → Frame
+fetchedFrame page write pin k = withLast (withPins (withDirty (newFrame page) write) (pinsWith pin 0)) k
 
 -- a frame that is unpinned
 abbrev pub unpinnedFrame : Frame → Frame
@@ -164,36 +167,32 @@ unpinnedFrame fr = withPins fr (fr .pins - 1)
 
 -- one reference more
 abbrev pub withStep : Head → Head
-withStep h = record { settings = h .settings; k = h .k + 1; hand = h .hand; sampler = h .sampler }
+withStep h = headWithK h (h .k + 1)
 
 -- a head that moved on: the settings stay
 abbrev pub movedTo : Head → Head → Head
-movedTo h g = record { settings = h .settings; k = g .k; hand = g .hand; sampler = g .sampler }
+movedTo h g = headWithSettings g (h .settings)
 
 -- a frame with logs of other lengths
 abbrev pub withLengths : Frame → ℕ → ℕ → Frame
-withLengths fr n m = record { used = fr .used; page = fr .page; dirty = fr .dirty; pins = fr .pins; count = fr .count; last = fr .last; accesses = n; writes = m }
+withLengths fr n m = withWrites (withAccesses fr n) m
 
 -- a reference in frame i: what becomes of the frame, and of the logs
 abbrev pub enteredAt : Pool → ℕ → Frame → List ℕ → List ℕ → Bool → Pool
-enteredAt p i fr access write on = record {
-  settings = p .settings;
-  k = p .k + 1;
-  hand = p .hand;
-  sampler = p .sampler;
-  frames = set (p .frames) i (withLengths fr (lengthWith access (i * accessRoom) accessRoom (fr .accesses) (nowOf p) true) (lengthWith write (i * writeRoom) writeRoom (fr .writes) (nowOf p) on));
-  access = logWith access (i * accessRoom) accessRoom (fr .accesses) (nowOf p) true;
-  write = logWith write (i * writeRoom) writeRoom (fr .writes) (nowOf p) on;
-}
+enteredAt p i fr access write on =
+    let n = lengthWith access (i * accessRoom) accessRoom (fr .accesses) (nowOf p) true in
+    let m = lengthWith write (i * writeRoom) writeRoom (fr .writes) (nowOf p) on in
+    let logs = withAccess p (logWith access (i * accessRoom) accessRoom (fr .accesses) (nowOf p) true) in
+    withK (withFrame (withWrite logs (logWith write (i * writeRoom) writeRoom (fr .writes) (nowOf p) on)) i (withLengths fr n m)) (p .k + 1)
 
 -- a hit in frame i, in place
-unfoldable pub hitIn : Pool → ℕ → ℕ → Pool
-hitIn p i kind = enteredAt p i (hitFrame (frameAt (p .frames) i) kind (p .settings .cap) (p .k)) (p .access) (p .write) (eqb kind 1)
+unfoldable pub hitIn : Pool → ℕ → Bool → Bool → Pool
+hitIn p i write pin = enteredAt p i (hitFrame (frameAt (p .frames) i) write pin (p .settings .cap) (p .k)) (p .access) (p .write) write
 
 -- a page fetched into frame i, in place
-unfoldable pub fetchedIn : Pool → ℕ → ℕ → ℕ → Pool
-fetchedIn p i page kind =
-    enteredAt p i (fetchedFrame page kind (p .k)) (cleared (p .access) (i * accessRoom) accessRoom) (cleared (p .write) (i * writeRoom) writeRoom) (eqb kind 1)
+unfoldable pub fetchedIn : Pool → ℕ → ℕ → Bool → Bool → Pool
+fetchedIn p i page write pin =
+    enteredAt p i (fetchedFrame page write pin (p .k)) (cleared (p .access) (i * accessRoom) accessRoom) (cleared (p .write) (i * writeRoom) writeRoom) write
 
 -- by outcome: a hit, a miss, an unpin, or a refusal
 abbrev pub byOutcome {ℓ} : {A : Type ℓ} → ℕ → A → A → A → A → A
@@ -205,13 +204,14 @@ byOutcome (suc (suc (suc (suc zero)))) hit miss unpin none = unpin
 byOutcome (suc (suc (suc (suc (suc n))))) hit miss unpin none = none
 
 -- a record with that row
-unfoldable pub entered : Pool → Row → ℕ → ℕ → Pool
-entered p w page kind = byOutcome (w .outcome) (hitIn p (w .frame) kind) (fetchedIn p (w .frame) page kind) (unpinnedAt p (w .frame)) p
+unfoldable pub entered : Pool → Row → ℕ → Asked → Pool
+entered p w page asks =
+    byOutcome (w .outcome) (hitIn p (w .frame) (asks .write) (asks .pin)) (fetchedIn p (w .frame) page (asks .write) (asks .pin)) (unpinnedAt p (w .frame)) p
 
 -- what entering asks: a frame, an epoch length and a cap in range, and that k can rise
 pub record Enterable (p : Pool) (i : ℕ) : Type 0 where
   pub frame : i < 128
-  pub epoch : 0 < p .settings .epoch
+  pub span : 0 < p .settings .span
   pub cap : p .settings .cap ≤ 7
   pub few : p .k ≤ referenceLimit
 

@@ -8,14 +8,15 @@ use Rattle.search.specs.Search.{pick, onFound, countBelow}
 use Rattle.refusal.specs.Refusals.{badField, noReferenceLeft, noFrame, notPinned, pinsFull}
 use Rattle.pool.specs.declared.Frame.{Frame}
 use Rattle.pool.specs.declared.Pool.{Pool}
-use Rattle.pool.specs.Pool.{referenceLimit, frameRoom, frameAt, withFrames}
+use Rattle.limit.specs.Limits.{referenceLimit}
+use Rattle.pool.specs.Pool.{frameRoom, frameAt, withFrames}
 use Rattle.reference.specs.Search.{findPage, lowestUnused}
 use Rattle.reference.specs.Reference.{hitAt, fetchedAt, pinnedAt, unpinnedAt}
 use Rattle.victim.specs.Choice.{Choice, leftBy}
 use Rattle.victim.specs.Rules.{choiceOf}
 use Rattle.batch.specs.Batch.{batchOf, cleaned, pagesOf}
 use Rattle.tally.specs.declared.Row.{Row}
-use Rattle.tally.specs.Rows.{row, hit, missUnused, missClean, missDirty, unpinned, refusedRow}
+use Rattle.tally.specs.Rows.{row, hit, missUnused, missClean, missDirty, unpinDone, refusedRow}
 
 -- a record's row, its written pages, the pool afterwards
 pub record Did : Type 0 where
@@ -84,7 +85,7 @@ referenceOf p page write pin =
 unfoldable pub unpinOf : Pool → ℕ → Did
 unpinOf p page =
     onFound (findPage (p .frames) page)
-    (λ i. pick (eqb (pinsAt p i) 0) (refusal p notPinned) (did (row unpinned i 0 0) [] (unpinnedAt p i)))
+    (λ i. pick (eqb (pinsAt p i) 0) (refusal p notPinned) (did (row unpinDone i 0 0) [] (unpinnedAt p i)))
     (refusal p notPinned)
 
 -- the kinds: 0 read, 1 write, 2 pin, 3 unpin; 4 to 65,535 are bad

@@ -9,12 +9,13 @@ ghost use mathlib.Core.Bool.{true};
 ghost use Prim.Native.Nat.{_+_, _<_, _≤_};
 ghost use lib.ListN.{length, set};
 ghost use Rattle.search.specs.Search.{pick};
-ghost use Rattle.pool.specs.Pool.{referenceLimit, frameAt};
+ghost use Rattle.limit.specs.Limits.{referenceLimit};
+ghost use Rattle.pool.specs.Pool.{frameAt};
 ghost use Rattle.pool.specs.Sound.{soundPool};
 ghost use Rattle.table.specs.Table.{framesIn, poolIn};
 ghost use Rattle.tally.specs.Rows.{row, missClean, missDirty};
 ghost use Rattle.effect.specs.Record.{recordOf};
-ghost use Rattle.effect.specs.ForCode.{Leaves, Plays, settledHit, settledMiss, settledReference, settledUnpin, settledBy, placeOf, roomPages, RoomMade, RoomAsked, RoomWhere, Framed, pinsWith, hitFrame, fetchedFrame, unpinnedFrame, withStep, movedTo, Enterable, LogsEnd, Entering, hitIn, fetchedIn, entered};
+ghost use Rattle.effect.specs.ForCode.{Leaves, Plays, settledHit, settledMiss, settledReference, settledUnpin, asked, askedBy, settledBy, placeOf, roomPages, RoomMade, RoomAsked, RoomWhere, Framed, pinsWith, hitFrame, fetchedFrame, unpinnedFrame, withStep, movedTo, Enterable, LogsEnd, Entering, hitIn, fetchedIn, entered};
 
 // A record's row, and settings, k, hand and sampler number afterwards. Frames and logs are changed where they stand.
 pub struct Worked {
@@ -65,7 +66,7 @@ fn settle_reference(k: u32, found: Found, pins: u8, free: Found, pin: bool) -> R
     requires { ⌜ Framed found × Framed free ⌝ }
     ensures { λ r. ⌜ (r ≡ settledReference k found pins free pin) × (r .frame < 128) ⌝ }
 {
-    if pool::REFERENCE_LIMIT <= k {
+    if limit::REFERENCE_LIMIT <= k {
         return tally::refused_row(refusal::NO_REFERENCE_LEFT);
     }
     match found {
@@ -85,20 +86,54 @@ fn settle_unpin(found: Found, pins: u8) -> Row
     if pins == 0 {
         return tally::refused_row(refusal::NOT_PINNED);
     }
-    row_at(tally::UNPINNED, i)
+    row_at(tally::UNPIN_DONE, i)
+}
+
+// What a record asks for: a reference or an unpin, or neither; with a write, with a pin.
+pub struct Asked {
+    pub reference: bool,
+    pub unpin: bool,
+    pub write: bool,
+    pub pin: bool,
+}
+
+fn asking(reference: bool, unpin: bool, write: bool, pin: bool) -> Asked
+    ensures { λ r. ⌜ r ≡ asked reference unpin write pin ⌝ }
+{
+    Asked {
+        reference: reference,
+        unpin: unpin,
+        write: write,
+        pin: pin,
+    }
+}
+
+// What a record asks for, by its kind: read, write, pin, unpin, and a bad one. Nothing else looks at a kind.
+pub fn asked_by(kind: u16) -> Asked
+    ensures { λ r. ⌜ r ≡ askedBy kind ⌝ }
+{
+    match kind {
+        0 => asking(true, false, false, false),
+        1 => asking(true, false, true, false),
+        2 => asking(true, false, false, true),
+        3 => asking(false, true, false, false),
+        4..=65535 => asking(false, false, false, false),
+    }
 }
 
 // The row of a record at step k, whose page was found in a frame with so many pins, or may go into an unused one. Where it is a miss with
 // a clean victim, a victim is wanted and is still to be found.
-fn settle(k: u32, found: Found, pins: u8, free: Found, kind: u16) -> Row
+fn settle(k: u32, found: Found, pins: u8, free: Found, asks: Asked) -> Row
     requires { ⌜ Framed found × Framed free ⌝ }
-    ensures { λ r. ⌜ (r ≡ settledBy k found pins free kind) × (r .frame < 128) ⌝ }
+    ensures { λ r. ⌜ (r ≡ settledBy k found pins free asks) × (r .frame < 128) ⌝ }
 {
-    match kind {
-        0..=2 => settle_reference(k, found, pins, free, kind == 2),
-        3 => settle_unpin(found, pins),
-        4..=65535 => tally::refused_row(refusal::BAD_FIELD),
+    if asks.reference {
+        return settle_reference(k, found, pins, free, asks.pin);
     }
+    if asks.unpin {
+        return settle_unpin(found, pins);
+    }
+    tally::refused_row(refusal::BAD_FIELD)
 }
 
 // The frame in which a page was found, or 0.
@@ -147,23 +182,23 @@ fn make_room<'a>(
     ensures { λ r. ⌜ RoomMade (poolIn h (now (table .entry)) (now (access .entry)) (now (write .entry))) at r (now (table .exit)) (now (out .entry)) (now (out .exit)) ⌝ }
 {
     let c = victim::choose(h, table, access, write);
-    let mut left = h;
-    left.hand = c.hand;
-    left.sampler = c.sampler;
+    let mut swept = h;
+    swept.hand = c.hand;
+    swept.sampler = c.sampler;
     let found = c.found;
     let Found::At(v) = found else {
         let none = tally::refused_row(refusal::NO_FRAME);
         return Worked {
             row: none,
-            head: left,
+            head: swept,
         };
     };
     let fr = table::frame_at(table, v);
-    let n = batch::write(left, table, access, write, v, out, at);
+    let n = batch::write(swept, table, access, write, v, out, at);
     let row = leaving_row(fr, v, n);
     Worked {
         row: row,
-        head: left,
+        head: swept,
     }
 }
 
@@ -177,31 +212,29 @@ fn pins_with(pin: bool, n: u8) -> u8
     n
 }
 
-fn hit_frame(fr: Frame, kind: u16, cap: u16, k: u32) -> Frame
+fn hit_frame(fr: Frame, write: bool, pin: bool, cap: u16, k: u32) -> Frame
     requires { ⌜ cap ≤ 7 ⌝ }
-    ensures { λ r. ⌜ r ≡ hitFrame fr kind cap k ⌝ }
+    ensures { λ r. ⌜ r ≡ hitFrame fr write pin cap k ⌝ }
 {
     let mut g = fr;
-    g.dirty = g.dirty | (kind == 1);
-    g.pins = pins_with(kind == 2, g.pins);
+    g.dirty = g.dirty | write;
+    g.pins = pins_with(pin, g.pins);
     g.count = reference::raise(cap, g.count);
     g.last = k;
     g
 }
 
-fn fetched_frame(page: u32, kind: u16, k: u32) -> Frame
-    ensures { λ r. ⌜ r ≡ fetchedFrame page kind k ⌝ }
+fn fetched_frame(page: u32, write: bool, pin: bool, k: u32) -> Frame
+    ensures { λ r. ⌜ r ≡ fetchedFrame page write pin k ⌝ }
 {
-    Frame {
-        used: true,
-        page: page,
-        dirty: kind == 1,
-        pins: pins_with(kind == 2, 0),
-        count: 1,
-        last: k,
-        accesses: 0,
-        writes: 0,
-    }
+    let mut g = pool::empty_frame();
+    g.used = true;
+    g.page = page;
+    g.count = 1;
+    g.dirty = write;
+    g.pins = pins_with(pin, 0);
+    g.last = k;
+    g
 }
 
 fn unpinned_frame(fr: Frame) -> Frame
@@ -219,9 +252,9 @@ fn counting(h: Head) -> Head
     requires { ⌜ h .k ≤ referenceLimit ⌝ }
     ensures { λ r. ⌜ r ≡ withStep h ⌝ }
 {
-    let mut left = h;
-    left.k = h.k + 1;
-    left
+    let mut next = h;
+    next.k = h.k + 1;
+    next
 }
 
 // A hit in frame i: its frame and logs changed where they stand, and the head then.
@@ -231,16 +264,17 @@ fn enter_hit(
     access: &mut [u32; 1024],
     write: &mut [u32; 512],
     i: usize,
-    kind: u16,
+    writes: bool,
+    pins: bool,
 ) -> Head
     requires { ⌜ Enterable (poolIn h (now table) (now access) (now write)) i × LogsEnd (poolIn h (now table) (now access) (now write)) i ⌝ }
-    ensures { λ r. ⌜ poolIn r (now (table .exit)) (now (access .exit)) (now (write .exit)) ≡ hitIn (poolIn h (now (table .entry)) (now (access .entry)) (now (write .entry))) i kind ⌝ }
+    ensures { λ r. ⌜ poolIn r (now (table .exit)) (now (access .exit)) (now (write .exit)) ≡ hitIn (poolIn h (now (table .entry)) (now (access .entry)) (now (write .entry))) i writes pins ⌝ }
 {
     let epoch = table::now_of(h);
     let old = table::frame_at(table, i);
-    let mut fr = hit_frame(old, kind, h.settings.cap, h.k);
+    let mut fr = hit_frame(old, writes, pins, h.settings.cap, h.k);
     fr.accesses = reference::enter_access(access, i, fr.accesses, epoch);
-    fr.writes = reference::enter_write(write, i, fr.writes, epoch, kind == 1);
+    fr.writes = reference::enter_write(write, i, fr.writes, epoch, writes);
     table::put(table, i, fr);
     counting(h)
 }
@@ -253,17 +287,18 @@ fn enter_fetch(
     write: &mut [u32; 512],
     i: usize,
     page: u32,
-    kind: u16,
+    writes: bool,
+    pins: bool,
 ) -> Head
     requires { ⌜ Enterable (poolIn h (now table) (now access) (now write)) i ⌝ }
-    ensures { λ r. ⌜ poolIn r (now (table .exit)) (now (access .exit)) (now (write .exit)) ≡ fetchedIn (poolIn h (now (table .entry)) (now (access .entry)) (now (write .entry))) i page kind ⌝ }
+    ensures { λ r. ⌜ poolIn r (now (table .exit)) (now (access .exit)) (now (write .exit)) ≡ fetchedIn (poolIn h (now (table .entry)) (now (access .entry)) (now (write .entry))) i page writes pins ⌝ }
 {
     let epoch = table::now_of(h);
-    let mut fr = fetched_frame(page, kind, h.k);
+    let mut fr = fetched_frame(page, writes, pins, h.k);
     reference::clear_access(access, i);
     reference::clear_write(write, i);
     fr.accesses = reference::enter_access(access, i, 0, epoch);
-    fr.writes = reference::enter_write(write, i, 0, epoch, kind == 1);
+    fr.writes = reference::enter_write(write, i, 0, epoch, writes);
     table::put(table, i, fr);
     table::note(table, page, i);
     counting(h)
@@ -288,16 +323,16 @@ pub fn enter(
     write: &mut [u32; 512],
     row: Row,
     page: u32,
-    kind: u16,
+    asks: Asked,
 ) -> Head
     requires { ⌜ Entering (poolIn h (now table) (now access) (now write)) row ⌝ }
-    ensures { λ r. ⌜ poolIn r (now (table .exit)) (now (access .exit)) (now (write .exit)) ≡ entered (poolIn h (now (table .entry)) (now (access .entry)) (now (write .entry))) row page kind ⌝ }
+    ensures { λ r. ⌜ poolIn r (now (table .exit)) (now (access .exit)) (now (write .exit)) ≡ entered (poolIn h (now (table .entry)) (now (access .entry)) (now (write .entry))) row page asks ⌝ }
 {
     let i = row.frame as usize;
     let outcome = row.outcome;
     match outcome {
-        0 => enter_hit(h, table, access, write, i, kind),
-        1..=3 => enter_fetch(h, table, access, write, i, page, kind),
+        0 => enter_hit(h, table, access, write, i, asks.write, asks.pin),
+        1..=3 => enter_fetch(h, table, access, write, i, page, asks.write, asks.pin),
         4 => {
             enter_unpin(table, i);
             h
@@ -329,11 +364,11 @@ fn room_where<'a>(
 fn moved(h: Head, next: Head) -> Head
     ensures { λ r. ⌜ r ≡ movedTo h next ⌝ }
 {
-    let mut left = h;
-    left.k = next.k;
-    left.hand = next.hand;
-    left.sampler = next.sampler;
-    left
+    let mut after = h;
+    after.k = next.k;
+    after.hand = next.hand;
+    after.sampler = next.sampler;
+    after
 }
 
 // What a record does to a pool, in place: its frames in a table, its logs, and the rest; its written pages go to `out` from `at` on. Each part is
@@ -351,17 +386,18 @@ pub fn play(
     requires { ⌜ Plays (poolIn h (now table) (now access) (now write)) (recordOf (poolIn h (now table) (now access) (now write)) page kind) at (length (now out)) ⌝ }
     ensures { λ r. ⌜ Leaves (recordOf (poolIn h (now (table .entry)) (now (access .entry)) (now (write .entry))) page kind) at r (now (table .exit)) (now (access .exit)) (now (write .exit)) (now (out .entry)) (now (out .exit)) ⌝ }
 {
+    let asks = asked_by(kind);
     let n = reference::in_use(table, h.settings.frames);
     let found = reference::find(table, page, n);
     let free = reference::lowest_unused(n, h.settings.frames);
     // Where nothing was found these are the pins of frame 0, which are not looked at.
     let old = table::frame_at(table, place_of(found));
-    let settled = settle(h.k, found, old.pins, free, kind);
+    let settled = settle(h.k, found, old.pins, free, asks);
     let room = room_where(h, table, access, write, settled, out, at);
     let row = room.row;
     let roomed = room.head;
-    let left = enter(roomed, table, access, write, row, page, kind);
-    let after = moved(h, left);
+    let entered = enter(roomed, table, access, write, row, page, asks);
+    let after = moved(h, entered);
     Worked {
         row: row,
         head: after,

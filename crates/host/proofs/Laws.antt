@@ -1,11 +1,17 @@
 -- Replay to counts from a fresh pool: it is not refused, and what is stored.
 use mathlib.Core.Path.{_≡_, refl, ap, sym, _∙_}
 use mathlib.Core.Bool.{true}
-use mathlib.Core.List.{List}
-use Prim.Native.Nat.{ℕ, zero, suc, _≤_, _<_}
-use lib.ListN.{length}
-use lib.Seq.{sets}
+use mathlib.Core.List.{List, [], _∷_, _++_, append-nil, append-assoc}
+use Prim.Native.Nat.{ℕ, zero, suc, _+_, _*_, _≤_, _<_}
+use native.Mathlib.Omega.{arith}
+use native.Mathlib.Numerals.{add-one}
+use native.Mathlib.Nat.{zero-add}
+use lib.ListN.{length, take, getD, length-append}
+use lib.Seq.{sets, take-suc, length-take-le}
 use borrow.Author.Tests.{le-leb, lt-leb}
+use Rattle.word.specs.declared.Order.{Order}
+use Rattle.word.specs.Number.{bytesOf}
+use Rattle.word.proofs.Laws.{sets-append, length-bytes}
 use Rattle.refusal.specs.Refusals.{noRoom}
 use Rattle.settings.specs.declared.Settings.{Settings}
 use Rattle.settings.specs.Settings.{inRange}
@@ -24,7 +30,35 @@ use Rattle.replay.specs.Replay.{Played, replayTo, replayOf}
 use Rattle.replay.specs.Calls.{mayBegin, endedOf}
 use Rattle.replay.specs.ForCode.{Ready}
 use Rattle.replay.proofs.Laws.{replay-none}
-use Rattle.host.specs.Counts.{countsLength, countBytes, freshCounts, hostRefusal, CountsInto}
+use Rattle.host.specs.Counts.{countsLength, wordsOf, countBytes, freshCounts, hostRefusal, CountsInto}
+
+-- ---- the bytes of numbers
+
+words-length : (o : Order) (l : List ℕ) → length (wordsOf o l) ≡ 4 * length l
+words-length o [] = refl
+words-length o (n ∷ l) = let h = words-length o l in let a = length-append (bytesOf o 4 n) (wordsOf o l) in let b = length-bytes o 4 n in omega arith
+
+words-snoc : (o : Order) (l : List ℕ) (n : ℕ) → wordsOf o (l ++ (n ∷ [])) ≡ wordsOf o l ++ bytesOf o 4 n
+words-snoc o [] n = append-nil (bytesOf o 4 n)
+words-snoc o (m ∷ l) n = ap (λ (x : List ℕ). bytesOf o 4 m ++ x) (words-snoc o l n) ∙ sym (append-assoc (bytesOf o 4 m) (wordsOf o l) (bytesOf o 4 n))
+
+-- those of one number more
+pub words-more : (o : Order) (l out₀ out out′ : List ℕ) (i : ℕ) → i < length l → out ≡ sets out₀ 0 (wordsOf o (take i l)) → out′ ≡ sets out (4 * i) (bytesOf o 4 (getD l i 0))
+    → out′ ≡ sets out₀ 0 (wordsOf o (take (i + 1) l))
+words-more o l out₀ out out′ i below e f =
+    rw (
+      f,
+      e,
+      add-one i,
+      take-suc l i 0 below,
+      words-snoc o (take i l) (getD l i 0),
+      sets-append (wordsOf o (take i l)) (bytesOf o 4 (getD l i 0)) out₀ 0,
+      words-length o (take i l),
+      length-take-le i l (omega arith),
+      zero-add,
+    )
+
+-- ---- from a fresh pool
 
 -- a fresh pool by settings in range
 fresh-pool : (x : Settings) → inRange x ≡ true → freshOf x .pool ≡ freshPool x

@@ -12,6 +12,9 @@ use trace::Checked;
 use trace::Summary;
 use word::Order;
 
+// The bytes of the counts, 4 for each.
+pub const COUNTS_BYTES: usize = 4 * tally::COUNTS;
+
 // 0, or the trace's refusal.
 #[no_mangle]
 pub extern "C" fn hitchyawl_check(bytes: &[u8]) -> u32
@@ -33,17 +36,17 @@ pub extern "C" fn hitchyawl_convert(bytes: &[u8], out: &mut [u8]) -> u32
     scribe::convert(bytes, out)
 }
 
-// The six counts, 4 bytes each, at the front of `out`.
+// The counts, 4 bytes each, at the front of `out`.
 fn put_tally(out: &mut [u8], order: Order, t: Tally)
     requires { ⌜ countsLength ≤ length (now out) ⌝ }
     ensures { λ _. ⌜ now (out .exit) ≡ sets (now (out .entry)) 0 (countBytes order t) ⌝ }
 {
-    word::put32(out, 0, order, t.hits);
-    word::put32(out, 4, order, t.misses);
-    word::put32(out, 8, order, t.evictions);
-    word::put32(out, 12, order, t.batches);
-    word::put32(out, 16, order, t.written);
-    word::put32(out, 20, order, t.refused);
+    let l = tally::numbers(t);
+    let mut i: usize = 0;
+    while i < tally::COUNTS {
+        word::put32(out, 4 * i, order, l[i]);
+        i += 1;
+    }
 }
 
 // The counts of an accepted trace from a fresh pool, which is sound: neither is checked again. With no record no pool is made.
@@ -65,7 +68,7 @@ fn counts_accepted(bytes: &[u8], summary: Summary, out: &mut [u8]) -> u32
     requires { ⌜ checkOf (now bytes) ≡ Checked.Accepted summary ⌝ }
     ensures { λ r. ⌜ CountsInto (now (bytes .entry)) (now (out .entry)) r (now (out .exit)) ⌝ }
 {
-    if out.len() < 24 {
+    if out.len() < COUNTS_BYTES {
         return refusal::NO_ROOM;
     }
     let order = summary.order;

@@ -2,8 +2,8 @@
 use lines::say;
 use lines::say_line;
 use lines::say_order;
-use lines::say_policy;
 use lines::say_refused;
+use listing::say_policy;
 use settings::Settings;
 use trace::Checked;
 use trace::Summary;
@@ -15,7 +15,7 @@ fn say_settings(s: Settings) {
     say_line(b"cap", s.cap as u64);
     say_line(b"sample", s.sample as u64);
     say_line(b"weight", s.weight as u64);
-    say_line(b"epoch", s.epoch as u64);
+    say_line(b"epoch", s.span as u64);
     say_line(b"seed", s.seed as u64);
 }
 
@@ -38,9 +38,9 @@ fn inspect_trace(bytes: &[u8]) {
     }
 }
 
-// The longest trace has 64,048 bytes. One byte more is read, so that a longer input shows its wrong length.
+// One byte more than the longest trace has is read, so that a longer input shows its wrong length.
 fn main() {
-    let mut space = [0u8; 64049];
+    let mut space = [0u8; trace::BYTE_LIMIT + 1];
     let n = io::read_full(libc::STDIN_FILENO, &mut space);
     inspect_trace(&space[..n]);
 }

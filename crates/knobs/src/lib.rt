@@ -33,7 +33,7 @@ pub fn with_setting(s: Settings, which: u32, x: u32) -> Settings {
         cap: either16(which == 3, x, s.cap),
         sample: either16(which == 4, x, s.sample),
         weight: either16(which == 5, x, s.weight),
-        epoch: either32(which == 6, x, s.epoch),
+        span: either32(which == 6, x, s.span),
         seed: either32(which == 7, x, s.seed),
     }
 }
@@ -118,7 +118,7 @@ fn mixed_settings(h: u64, s: Settings) -> u64
         mixed(mixed(a, s.cap as u32), s.sample as u32),
         s.weight as u32,
     );
-    mixed(mixed(b, s.epoch), s.seed)
+    mixed(mixed(b, s.span), s.seed)
 }
 
 fn mixed_frame(h: u64, fr: Frame) -> u64

@@ -39,17 +39,6 @@ pub fn say_refused(refusal: u32) {
     say_line(b"trace refused", refusal as u64);
 }
 
-// The line of a rule's name.
-pub fn say_policy(rule: u16) {
-    say(b"policy");
-    match rule {
-        0 => say(b" lru\n"),
-        1 => say(b" clock\n"),
-        2 => say(b" watt\n"),
-        _ => say(b" unknown\n"),
-    }
-}
-
 // An order's name, after a space.
 pub fn say_order(order: Order) {
     match order {

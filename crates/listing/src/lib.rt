@@ -1,6 +1,11 @@
 // The listing of a replay: its rows, the pages that it wrote, the pool that it left, and the counts.
 ghost use Prim.Native.Nat.{_+_, _<_, _≤_};
 ghost use lib.ListN.{length};
+ghost use mathlib.Core.Path.{_≡_};
+ghost use Rattle.trace.specs.Check.{checkOf};
+ghost use Rattle.pool.specs.Pool.{freshOf};
+ghost use Rattle.replay.specs.Calls.{countsOf};
+ghost use Rattle.listing.specs.Fresh.{freshFor};
 use lines::say;
 use lines::say_bool;
 use lines::say_first;
@@ -15,38 +20,39 @@ use replay::Ended;
 use settings::Settings;
 use tally::Tally;
 use trace::Checked;
-use trace::Summary;
-use word::Order;
 
-// What the checker tells of a trace; of a bad one all zero.
-fn summary_of(bytes: &[u8]) -> Summary {
+// Four numbers for each record of the longest trace.
+const ROWS: usize = 4 * trace::RECORD_LIMIT;
+
+// A page for each of its records and for each of 128 dirty frames.
+const WRITTEN: usize = trace::RECORD_LIMIT + 128;
+
+// How many records a trace has; a bad one none.
+fn count_of(bytes: &[u8]) -> u32 {
     let c = trace::check(bytes);
     match c {
-        Checked::Accepted(summary) => summary,
-        Checked::Refused(_) => Summary {
-            settings: Settings {
-                rule: 0,
-                frames: 0,
-                batch: 0,
-                cap: 0,
-                sample: 0,
-                weight: 0,
-                epoch: 0,
-                seed: 0,
-            },
-            order: Order::High,
-            count: 0,
-        },
+        Checked::Accepted(summary) => summary.count,
+        Checked::Refused(_) => 0,
     }
+}
+
+fn fresh_by(settings: Settings) -> Pool
+    ensures { λ r. ⌜ r ≡ freshOf settings .pool ⌝ }
+{
+    let opened = pool::fresh(settings);
+    opened.pool
 }
 
 // A fresh pool by a trace's settings. For a bad trace any pool will do: a replay refuses the trace before it looks at the
 // settings.
-pub fn fresh_for(bytes: &[u8]) -> Pool {
-    let summary = summary_of(bytes);
-    let settings = summary.settings;
-    let opened = pool::fresh(settings);
-    opened.pool
+pub fn fresh_for(bytes: &[u8]) -> Pool
+    ensures { λ r. ⌜ r ≡ freshFor (checkOf (now (bytes .entry))) ⌝ }
+{
+    let c = trace::check(bytes);
+    match c {
+        Checked::Accepted(summary) => fresh_by(summary.settings),
+        Checked::Refused(_) => fresh_by(settings::one_frame()),
+    }
 }
 
 // A count, kept to the places that are there: its type allows more than a replay gives.
@@ -56,14 +62,14 @@ fn kept(count: usize, places: usize) -> usize
     if count < places { count } else { places }
 }
 
-fn say_rows(rows: &[u32; 32000], count: u32) {
+fn say_rows(rows: &[u32; ROWS], count: u32) {
     say_line(b"rows", count as u64);
-    say_table(rows, kept(count as usize * 4, 32000), 4);
+    say_table(rows, kept(count as usize * 4, ROWS), 4);
 }
 
-fn say_written(written: &[u32; 8128], count: u32) {
+fn say_written(written: &[u32; WRITTEN], count: u32) {
     say_line(b"written", count as u64);
-    say_table(written, kept(count as usize, 8128), 1);
+    say_table(written, kept(count as usize, WRITTEN), 1);
 }
 
 fn one_more(n: u64, used: bool) -> u64
@@ -125,27 +131,56 @@ fn say_pool(p: Pool) {
     say_frames(p);
 }
 
-pub fn say_counts(t: Tally) {
-    say_line(b"hits", t.hits as u64);
-    say_line(b"misses", t.misses as u64);
-    say_line(b"evictions", t.evictions as u64);
-    say_line(b"batches", t.batches as u64);
-    say_line(b"written", t.written as u64);
-    say_line(b"refused", t.refused as u64);
+// The first n letters. They come by value, so that their number is known.
+fn say_letters(letters: [u8; 16], n: usize)
+    requires { ⌜ n ≤ 16 ⌝ }
+{
+    say(&letters[0..n]);
 }
 
-// Replays a trace and prints its listing, or that it is refused. The lists hold what a replay can need: four numbers for
-// each of 8,000 records, and a page for each of them and for each of 128 dirty frames.
-pub fn list(pool: Pool, tally: Tally, bytes: &[u8]) -> Ended {
-    let mut rows = [0u32; 32000];
-    let mut written = [0u32; 8128];
+// The line of a rule's name.
+pub fn say_policy(rule: u16) {
+    let name = victim::name_of(rule);
+    let letters = name.bytes;
+    say(b"policy ");
+    say_letters(letters, name.length);
+    say(b"\n");
+}
+
+// A count by its name, in the order of the counts.
+fn say_count(i: usize, n: u64) {
+    match i {
+        0 => say_line(b"hits", n),
+        1 => say_line(b"misses", n),
+        2 => say_line(b"evictions", n),
+        3 => say_line(b"batches", n),
+        4 => say_line(b"written", n),
+        _ => say_line(b"refused", n),
+    }
+}
+
+pub fn say_counts(t: Tally) {
+    let l = tally::numbers(t);
+    let mut i: usize = 0;
+    while i < tally::COUNTS {
+        say_count(i, l[i] as u64);
+        i += 1;
+    }
+}
+
+// Replays a trace and prints its listing, or that it is refused. The lists hold what any replay needs, so none is refused by 13, and the
+// answer is that of a replay to counts.
+pub fn list(pool: Pool, tally: Tally, bytes: &[u8]) -> Ended
+    ensures { λ r. ⌜ r ≡ countsOf pool tally (now (bytes .entry)) ⌝ }
+{
+    let mut rows = [0u32; ROWS];
+    let mut written = [0u32; WRITTEN];
     let ended = replay::replay(pool, tally, bytes, &mut rows, &mut written);
     if ended.refusal != 0 {
         say_refused(ended.refusal);
         return ended;
     }
-    let summary = summary_of(bytes);
-    say_rows(&rows, summary.count);
+    say_rows(&rows, count_of(bytes));
     say_written(
         &written,
         std::num::wrapping_sub_u32(ended.tally.written, tally.written),

@@ -10,9 +10,9 @@ use Rattle.search.specs.Search.{everyBelow}
 use Rattle.search.proofs.Every.{every-fails}
 use Rattle.refusal.specs.Refusals.{outOfRange}
 use Rattle.settings.specs.declared.Settings.{Settings}
-use Rattle.settings.specs.Settings.{inRange}
+use Rattle.settings.specs.Settings.{inRange, oneFrame}
 use Rattle.pool.specs.declared.Pool.{Pool}
-use Rattle.pool.specs.Pool.{oneFrame, freshPool, opened, freshOf}
+use Rattle.pool.specs.Pool.{freshPool, opened, freshOf}
 use Rattle.pool.specs.Sound.{placeAt, soundLog}
 
 -- the two ways through a fresh pool

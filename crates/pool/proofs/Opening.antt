@@ -5,12 +5,12 @@ use Prim.Native.Nat.{ℕ, _+_, _*_, _≤_, _<_}
 use native.Mathlib.Omega.{arith}
 use lib.ListN.{replicate, getD-replicate}
 use Rattle.settings.specs.declared.Settings.{Settings}
-use Rattle.settings.specs.Settings.{inRange}
+use Rattle.settings.specs.Settings.{inRange, oneFrame}
 use Rattle.settings.proofs.Laws.{ranges}
 use Rattle.search.proofs.Every.{pick-ind}
 use Rattle.pool.specs.declared.Frame.{Frame}
 use Rattle.pool.specs.declared.Opened.{Opened}
-use Rattle.pool.specs.Pool.{emptyFrame, frameAt, oneFrame, freshPool, opened, freshOf, lastEpochOf}
+use Rattle.pool.specs.Pool.{emptyFrame, frameAt, freshPool, opened, freshOf, lastEpochOf}
 use Rattle.pool.specs.Sound.{soundPool}
 use Rattle.pool.proofs.Sound.{Logged, SoundFrame, Sound, made}
 

@@ -13,7 +13,8 @@ use Rattle.settings.specs.Settings.{inRange}
 use Rattle.pool.specs.declared.Frame.{Frame}
 use Rattle.pool.specs.declared.Pool.{Pool}
 use Rattle.pool.specs.Sound.{whenever, holdsPage, lastAt, zeroFrame, placeAt, soundLog, lowest, withinFrames, distinctPage, unusedZero, countCapped, lastBelow, distinctLast, accessLogSound, writeLogSound, logsNonempty, each, soundPool}
-use Rattle.pool.specs.Pool.{referenceLimit, emptyFrame, frameAt, lastEpochOf}
+use Rattle.limit.specs.Limits.{referenceLimit}
+use Rattle.pool.specs.Pool.{emptyFrame, frameAt, lastEpochOf}
 
 -- what two tests tell together, and one behind another
 pub both : (a b : Bool) → (a && b) ≡ true → (a ≡ true) × (b ≡ true)

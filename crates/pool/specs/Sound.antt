@@ -9,7 +9,8 @@ use Rattle.refusal.specs.Refusals.{demand, notSound}
 use Rattle.settings.specs.Settings.{inRange}
 use Rattle.pool.specs.declared.Frame.{Frame}
 use Rattle.pool.specs.declared.Pool.{Pool}
-use Rattle.pool.specs.Pool.{referenceLimit, frameRoom, accessRoom, writeRoom, frameAt, lastEpochOf}
+use Rattle.limit.specs.Limits.{referenceLimit}
+use Rattle.pool.specs.Pool.{frameRoom, accessRoom, writeRoom, frameAt, lastEpochOf}
 
 -- the second test, asked only where the first holds
 abbrev pub whenever : Bool → Bool → Bool
@@ -115,5 +116,5 @@ soundPool p =
     && each (logsNonempty p))))))))))))
 
 -- 14: pool not sound
-unfoldable pub checkOf : Pool → ℕ
-checkOf p = demand (soundPool p) notSound 0
+unfoldable pub poolRefusal : Pool → ℕ
+poolRefusal p = demand (soundPool p) notSound 0

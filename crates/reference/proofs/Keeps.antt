@@ -16,13 +16,14 @@ use Rattle.settings.specs.declared.Settings.{Settings}
 use Rattle.settings.proofs.Laws.{ranges}
 use Rattle.pool.specs.declared.Frame.{Frame}
 use Rattle.pool.specs.declared.Pool.{Pool}
-use Rattle.pool.specs.Pool.{referenceLimit, emptyFrame, frameAt, nowOf, lastEpochOf, withCount}
+use Rattle.limit.specs.Limits.{referenceLimit}
+use Rattle.pool.specs.Pool.{emptyFrame, frameAt, nowOf, lastEpochOf, withCount, withFrame, withPins}
 use Rattle.pool.proofs.Sound.{Sound}
 use Rattle.pool.proofs.Epochs.{last-before-now}
 use Rattle.pool.proofs.Sizes.{Sized, access-room, write-room}
 use Rattle.pool.proofs.Quiet.{Alike, Quiet, sound-quiet}
 use Rattle.reference.specs.Search.{has, findPage, unused, lowestUnused}
-use Rattle.reference.specs.Reference.{withFrame, withPins, raised, newFrame, emptied, hitAt, fetchedAt, pinnedAt, unpinnedAt}
+use Rattle.reference.specs.Reference.{raised, newFrame, emptied, hitAt, fetchedAt, pinnedAt, unpinnedAt}
 use Rattle.reference.proofs.Logs.{clear-length}
 use Rattle.reference.proofs.Logged.{logged-up, logged-same, clear-logged, clear-other}
 use Rattle.reference.proofs.Ready.{Own, own, Ready, set-at, referred-sound, referred-sized}

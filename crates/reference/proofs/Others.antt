@@ -6,9 +6,9 @@ use lib.ListN.{length, getD}
 use lib.Seq.{getD-set-other}
 use Rattle.pool.specs.declared.Frame.{Frame}
 use Rattle.pool.specs.declared.Pool.{Pool}
-use Rattle.pool.specs.Pool.{emptyFrame, frameAt, nowOf, withCount}
+use Rattle.pool.specs.Pool.{emptyFrame, frameAt, nowOf, withCount, withFrame, withPins}
 use Rattle.pool.proofs.Sizes.{Sized, access-room, write-room}
-use Rattle.reference.specs.Reference.{withFrame, withPins, raised, newFrame, referredFrame, referred, emptied, hitAt, fetchedAt, pinnedAt, unpinnedAt}
+use Rattle.reference.specs.Reference.{raised, newFrame, referredFrame, referred, emptied, hitAt, fetchedAt, pinnedAt, unpinnedAt}
 use Rattle.reference.proofs.Logs.{clear-length}
 use Rattle.reference.proofs.Logged.{with-other, clear-other}
 

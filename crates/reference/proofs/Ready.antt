@@ -10,7 +10,8 @@ use lib.Seq.{getD-set-same, getD-set-other}
 use Rattle.settings.specs.Settings.{inRange}
 use Rattle.pool.specs.declared.Frame.{Frame}
 use Rattle.pool.specs.declared.Pool.{Pool}
-use Rattle.pool.specs.Pool.{referenceLimit, emptyFrame, frameAt, epochAt, nowOf, lastEpochOf}
+use Rattle.limit.specs.Limits.{referenceLimit}
+use Rattle.pool.specs.Pool.{emptyFrame, frameAt, epochAt, nowOf, lastEpochOf}
 use Rattle.pool.proofs.Sound.{Logged, SoundFrame, Sound}
 use Rattle.pool.proofs.Sizes.{Sized, access-room, write-room}
 use Rattle.reference.specs.Logs.{lengthWith}

@@ -6,9 +6,9 @@ use lib.ListN.{length-set}
 use lib.Seq.{getD-set-same}
 use Rattle.pool.specs.declared.Frame.{Frame}
 use Rattle.pool.specs.declared.Pool.{Pool}
-use Rattle.pool.specs.Pool.{emptyFrame, frameAt, withCount}
+use Rattle.pool.specs.Pool.{emptyFrame, frameAt, withCount, withFrame, withPins}
 use Rattle.pool.proofs.Sizes.{Sized}
-use Rattle.reference.specs.Reference.{withFrame, withPins, raised, newFrame, referredFrame, referred, emptied, hitAt, fetchedAt, pinnedAt, unpinnedAt}
+use Rattle.reference.specs.Reference.{raised, newFrame, referredFrame, referred, emptied, hitAt, fetchedAt, pinnedAt, unpinnedAt}
 
 module _ (p : Pool) (z : Sized p) (i : ℕ) (l : i < 128) where
   own : (g : Frame) → frameAt (withFrame p i g .frames) i ≡ g

@@ -1,6 +1,8 @@
 -- Numbered refusals: the table, and the order in which a call looks for them. 0 stands for none.
 use Prim.Native.Nat.{ℕ, zero, suc}
 use mathlib.Core.Bool.{Bool, true, false}
+use mathlib.Core.List.{List}
+use lib.Seq.{sets}
 
 -- 1: under 48 bytes
 abbrev pub tooShort : ℕ
@@ -71,3 +73,8 @@ demand false refusal after = refusal
 abbrev pub orElse : ℕ → ℕ → ℕ
 orElse zero next = next
 orElse (suc r) next = suc r
+
+-- lent memory after a call: a refused call stores nothing; else the numbers go to the front of what was lent
+abbrev pub stored : ℕ → List ℕ → List ℕ → List ℕ
+stored zero numbers lent = sets lent 0 numbers
+stored (suc r) numbers lent = lent

@@ -1,19 +1,20 @@
 -- That ρ is one-to-one on the pages of trace and pool together is needed.
 use mathlib.Core.Path.{_≡_, refl, ap, sym, _∙_}
 use mathlib.Core.Bool.{true, or-false}
-use mathlib.Core.List.{[], _∷_}
+use mathlib.Core.List.{List, [], _∷_}
 use Prim.Native.Nat.{ℕ}
 use native.Mathlib.Omega.{arith}
 use lib.Dec.{eqb}
 use borrow.Author.Tests.{eqb-true}
+use lib.ListN.{getD}
 use Rattle.search.specs.Search.{leastBelow, everyBelow, among}
 use Rattle.word.specs.declared.Order.the-variants.{High}
-use Rattle.settings.specs.Settings.{inRange}
-use Rattle.trace.specs.Layout.{traceFrom, settingsAt, traceAt}
+use Rattle.settings.specs.Settings.{inRange, settingsBytes, settingsAt, oneFrame}
+use Rattle.trace.specs.Layout.{traceFrom, traceAt}
 use Rattle.trace.specs.Encode.{headerBytes, recordBytes, encode}
 use Rattle.trace.specs.Check.{layoutRefusal, contentRefusal, refusalIn, refusalOf, traceOf}
 use Rattle.trace.proofs.Bytes.{encode-bytes}
-use Rattle.pool.specs.Pool.{oneFrame, freshPool, nowOf, lastEpochOf}
+use Rattle.pool.specs.Pool.{freshPool, nowOf, lastEpochOf}
 use Rattle.pool.specs.Sound.{soundLog, soundPool}
 use Rattle.reference.specs.Search.{findPage, lowestUnused}
 use Rattle.reference.specs.Logs.{putFront, cleared, lengthWith, logWith}
@@ -21,8 +22,7 @@ use Rattle.reference.specs.Reference.{referred, hitAt, fetchedAt}
 use Rattle.victim.specs.Lru.{lruVictim, lruChoice}
 use Rattle.victim.specs.Rules.{choiceOf}
 use Rattle.batch.specs.Batch.{batchOf, cleaned, pagesOf}
-use Rattle.tally.specs.declared.Tally.{Tally}
-use Rattle.tally.specs.Tally.{zeroTally, countedBy}
+use Rattle.tally.specs.Tally.{numbersOf, zeroTally, countedBy}
 use Rattle.effect.specs.Record.{hitOf, leavingOf, evictionOf, missOf, referenceOf, recordOf}
 use Rattle.replay.specs.Replay.{Played, replayTo, replayOf}
 use Rattle.rename.specs.Renamed.{renamedPool, renamedBytes}
@@ -30,11 +30,11 @@ use Rattle.rename.specs.Sameness.{residentPages, Renames, Given}
 use Rattle.rename.specs.Needed.{pool, trace, merging, DemandApart}
 
 bytes-trace : traceOf (encode trace) ≡ trace
-unfolding traceOf traceAt settingsAt encode headerBytes recordBytes
+unfolding traceOf traceAt settingsAt encode headerBytes settingsBytes recordBytes
 bytes-trace = refl
 
 merged-trace : traceOf (renamedBytes merging High (encode trace)) ≡ traceFrom oneFrame High (1 ∷ []) (0 ∷ [])
-unfolding traceOf traceAt settingsAt encode headerBytes recordBytes
+unfolding traceOf traceAt settingsAt encode headerBytes settingsBytes recordBytes
 merged-trace = refl
 
 pool-sound : soundPool pool ≡ true
@@ -42,7 +42,7 @@ unfolding soundPool soundLog everyBelow inRange lastEpochOf freshPool recordOf r
 pool-sound = refl
 
 bytes-accepted : refusalOf (encode trace) ≡ 0
-unfolding refusalOf refusalIn layoutRefusal contentRefusal settingsAt inRange encode headerBytes recordBytes
+unfolding refusalOf refusalIn layoutRefusal contentRefusal settingsAt inRange encode headerBytes settingsBytes recordBytes
 bytes-accepted = refl
 
 -- both are given as the demand says
@@ -63,12 +63,11 @@ unfolding residentPages freshPool recordOf referenceOf missOf findPage lowestUnu
 pool-page = refl
 
 -- a miss becomes a hit
-pub counts-before : replayOf pool zeroTally (traceOf (encode trace)) .tally ≡ record { hits = 0; misses = 1; evictions = 1; batches = 0; written = 0; refused = 0 }
+pub counts-before : numbersOf (replayOf pool zeroTally (traceOf (encode trace)) .tally) ≡ 0 ∷ 1 ∷ 1 ∷ 0 ∷ 0 ∷ 0 ∷ []
 unfolding countedBy replayTo recordOf referenceOf hitOf missOf evictionOf leavingOf freshPool findPage lowestUnused leastBelow referred hitAt fetchedAt choiceOf lruChoice lruVictim batchOf cleaned pagesOf
 counts-before = rw bytes-trace refl
 
-pub counts-after : replayOf (renamedPool merging pool) zeroTally (traceOf (renamedBytes merging High (encode trace))) .tally
-    ≡ record { hits = 1; misses = 0; evictions = 0; batches = 0; written = 0; refused = 0 }
+pub counts-after : numbersOf (replayOf (renamedPool merging pool) zeroTally (traceOf (renamedBytes merging High (encode trace))) .tally) ≡ 1 ∷ 0 ∷ 0 ∷ 0 ∷ 0 ∷ 0 ∷ []
 unfolding countedBy replayTo recordOf referenceOf hitOf missOf freshPool findPage lowestUnused leastBelow referred hitAt fetchedAt
 counts-after = rw merged-trace refl
 
@@ -76,5 +75,5 @@ counts-after = rw merged-trace refl
 pub needed : DemandApart → ⊥
 needed demand =
     let h = demand merging pool zeroTally (encode trace) given (rw bytes-trace (one-page 2)) (rw pool-page (one-page 1)) in
-    let e = ap (λ (t : Tally). t .hits) (sym counts-after ∙ ap (λ (r : Played). r .tally) (h .replayed High) ∙ counts-before) in
+    let e = ap (λ (l : List ℕ). getD l 0 0) (sym counts-after ∙ ap (λ (r : Played). numbersOf (r .tally)) (h .replayed High) ∙ counts-before) in
     omega arith

@@ -15,7 +15,8 @@ use Rattle.search.proofs.Among.{All, all-for}
 use Rattle.settings.proofs.Laws.{ranges}
 use Rattle.pool.specs.declared.Frame.{Frame}
 use Rattle.pool.specs.declared.Pool.{Pool}
-use Rattle.pool.specs.Pool.{referenceLimit, frameAt, withFrames}
+use Rattle.limit.specs.Limits.{referenceLimit}
+use Rattle.pool.specs.Pool.{frameAt, withFrames}
 use Rattle.pool.proofs.Sound.{Sound, dirty-used}
 use Rattle.reference.specs.Search.{findPage, lowestUnused}
 use Rattle.reference.specs.Reference.{hitAt}
@@ -27,7 +28,7 @@ use Rattle.victim.proofs.Rules.{choice-owes}
 use Rattle.batch.specs.Batch.{batchOf, cleaned, pagesOf}
 use Rattle.batch.proofs.Pages.{batch-repaged, cleaned-repaged}
 use Rattle.tally.specs.declared.Row.{Row}
-use Rattle.tally.specs.Rows.{row, hit, missUnused, missClean, missDirty, unpinned, refusedBy, refusedRow}
+use Rattle.tally.specs.Rows.{row, hit, missUnused, missClean, missDirty, unpinDone, refusedBy, refusedRow}
 use Rattle.effect.specs.Record.{Did, did, pinLimit, pinsAt, refusal, pinnedWhere, hitOf, leavingOf, evictionOf, missOf, referenceOf, unpinOf, recordOf}
 use Rattle.effect.proofs.Ways.{at-limit, resident, absent, free, full, victim, no-victim, pins-full, pins-free, unpin-absent, unpin-none, unpin-one}
 use Rattle.effect.proofs.Dirty.{batch-due}
@@ -158,7 +159,7 @@ module _ (ρ : ℕ → ℕ) (pages : List ℕ) (names : Renames ρ pages) (p : P
           ∙ sym (ap (renamedDid ρ) (unpin-none p page i a e))
       one false i a e =
           unpin-one t (ρ page) i (found ∙ a) (ap (λ (n : ℕ). eqb n 0) (pins-renamed ρ p i) ∙ e)
-          ∙ ap (did (row unpinned i 0 0) []) (unpin-renamed ρ p i)
+          ∙ ap (did (row unpinDone i 0 0) []) (unpin-renamed ρ p i)
           ∙ sym (ap (renamedDid ρ) (unpin-one p page i a e))
 
       go : (f : Found) → findPage (p .frames) page ≡ f → unpinOf t (ρ page) ≡ renamedDid ρ (unpinOf p page)

@@ -4,8 +4,8 @@ use mathlib.Core.Bool.{Bool, true, false}
 use Prim.Native.Nat.{ℕ, _+_, _-_}
 use Rattle.pool.specs.declared.Frame.{Frame}
 use Rattle.pool.specs.declared.Pool.{Pool}
-use Rattle.pool.specs.Pool.{frameAt, withCount, nowOf, withFrames}
-use Rattle.reference.specs.Reference.{withFrame, withPins, raised, newFrame, referredFrame, referred, emptied, hitAt, fetchedAt, pinnedAt, unpinnedAt}
+use Rattle.pool.specs.Pool.{frameAt, withCount, nowOf, withFrames, withFrame, withPins}
+use Rattle.reference.specs.Reference.{raised, newFrame, referredFrame, referred, emptied, hitAt, fetchedAt, pinnedAt, unpinnedAt}
 use Rattle.victim.proofs.Owed.{map-set}
 use Rattle.effect.specs.Record.{pinnedWhere, filled}
 use Rattle.rename.specs.Renamed.{renamedFrame, renamedPool}

@@ -12,9 +12,10 @@ use Rattle.search.specs.Search.{among}
 use Rattle.search.proofs.Every.{pick-ind}
 use Rattle.pool.specs.declared.Frame.{Frame}
 use Rattle.pool.specs.declared.Pool.{Pool}
-use Rattle.pool.specs.Pool.{referenceLimit, frameAt, withCount, withFrames}
+use Rattle.limit.specs.Limits.{referenceLimit}
+use Rattle.pool.specs.Pool.{frameAt, withCount, withFrames, withFrame, withPins}
 use Rattle.reference.specs.Search.{findPage, lowestUnused}
-use Rattle.reference.specs.Reference.{withFrame, withPins, raised, newFrame, referredFrame, referred, emptied, hitAt, fetchedAt, pinnedAt, unpinnedAt}
+use Rattle.reference.specs.Reference.{raised, newFrame, referredFrame, referred, emptied, hitAt, fetchedAt, pinnedAt, unpinnedAt}
 use Rattle.victim.specs.Choice.{leftBy}
 use Rattle.victim.specs.Rules.{choiceOf}
 use Rattle.victim.proofs.Rules.{choice-owes}

@@ -4,8 +4,8 @@ use mathlib.Core.Path.{_≡_}
 use mathlib.Core.Bool.{true}
 use mathlib.Core.List.{List, _∷_, map}
 use lib.ListN.{length}
-use lib.Seq.{sets}
 use Rattle.word.specs.declared.Order.{Order}
+use Rattle.refusal.specs.Refusals.{stored}
 use Rattle.trace.specs.Check.{traceOf}
 use Rattle.pool.specs.declared.Pool.{Pool}
 use Rattle.pool.specs.Sound.{soundPool}
@@ -13,16 +13,16 @@ use Rattle.tally.specs.declared.Tally.{Tally}
 use Rattle.effect.specs.Record.{recordOf}
 use Rattle.replay.specs.declared.Stepped.{Stepped}
 use Rattle.replay.specs.declared.Ended.{Ended}
-use Rattle.replay.specs.Replay.{replayOf, numbersOf}
-use Rattle.replay.specs.Calls.{unlessRefused, stepRefusal, steppedOf, StepInto, replayRefusal, endedOf, countsOf, ReplayInto}
+use Rattle.replay.specs.Replay.{replayOf, rowsNumbers}
+use Rattle.replay.specs.Calls.{stepRefusal, steppedOf, StepInto, replayRefusal, endedOf, countsOf, ReplayInto}
 use Rattle.rename.specs.Renamed.{renamedPages, renamedPool, renamedBytes, renamedRow, renamedStepped, renamedEnded}
 use Rattle.rename.specs.Sameness.{residentPages, pagesTogether, Renames, Given}
 
 -- `ReplayInto`, what `replay::replay` ensures, with the answer, the rows and the written pages renamed; refusal, counts and all other places are the same
 pub record ReplayRenamed (ρ : ℕ → ℕ) (p : Pool) (t : Tally) (s rows written : List ℕ) (r : Ended) (rows′ written′ : List ℕ) : Type 0 where
   pub answers : r ≡ renamedEnded ρ (endedOf (replayRefusal p t s (length rows) (length written)) p t (replayOf p t (traceOf s)))
-  pub rows-hold : rows′ ≡ sets rows 0 (unlessRefused (replayRefusal p t s (length rows) (length written)) (numbersOf (map (renamedRow ρ) (replayOf p t (traceOf s) .rows))))
-  pub written-hold : written′ ≡ sets written 0 (unlessRefused (replayRefusal p t s (length rows) (length written)) (renamedPages ρ (replayOf p t (traceOf s) .written)))
+  pub rows-hold : rows′ ≡ stored (replayRefusal p t s (length rows) (length written)) (rowsNumbers (map (renamedRow ρ) (replayOf p t (traceOf s) .rows))) rows
+  pub written-hold : written′ ≡ stored (replayRefusal p t s (length rows) (length written)) (renamedPages ρ (replayOf p t (traceOf s) .written)) written
 
 -- that is what it does for the renamed pool and the renamed bytes, written in either order, whatever the lists that are lent to it
 abbrev pub ReplayDemand : Type 0
@@ -38,7 +38,7 @@ CountsDemand = (ρ : ℕ → ℕ) (p : Pool) (t : Tally) (s : List ℕ) → Give
 -- `StepInto`, what `replay::step` ensures, with the answer and the written pages renamed
 pub record StepRenamed (ρ : ℕ → ℕ) (p : Pool) (t : Tally) (page kind : ℕ) (list : List ℕ) (r : Stepped) (list′ : List ℕ) : Type 0 where
   pub answers : r ≡ renamedStepped ρ (steppedOf (stepRefusal p t kind (length list)) p t (recordOf p page kind))
-  pub list-holds : list′ ≡ sets list 0 (unlessRefused (stepRefusal p t kind (length list)) (renamedPages ρ (recordOf p page kind .written)))
+  pub list-holds : list′ ≡ stored (stepRefusal p t kind (length list)) (renamedPages ρ (recordOf p page kind .written)) list
 
 -- that is what it does for the renamed pool and page, with ρ one-to-one on the page and those of the pool
 abbrev pub StepDemand : Type 0

@@ -2,10 +2,11 @@
 use Prim.Native.Nat.{ℕ}
 use mathlib.Core.List.{List, [], _∷_}
 use Rattle.word.specs.declared.Order.the-variants.{High}
+use Rattle.settings.specs.Settings.{oneFrame}
 use Rattle.trace.specs.Layout.{Trace, traceFrom}
 use Rattle.trace.specs.Check.{traceOf}
 use Rattle.pool.specs.declared.Pool.{Pool}
-use Rattle.pool.specs.Pool.{oneFrame, freshPool}
+use Rattle.pool.specs.Pool.{freshPool}
 use Rattle.tally.specs.declared.Tally.{Tally}
 use Rattle.effect.specs.Record.{recordOf}
 use Rattle.rename.specs.Sameness.{residentPages, Renames, Given, OnlySameness}

@@ -27,19 +27,20 @@ use Rattle.table.proofs.Held.{of-parts}
 use Rattle.tally.specs.declared.Tally.{Tally}
 use Rattle.tally.specs.Tally.{tallyLimit}
 use Rattle.tally.specs.ForCode.{Within, Countable}
-use Rattle.tally.proofs.Laws.{within-more, within-countable}
+use Rattle.tally.proofs.Laws.{within-countable}
 use Rattle.effect.specs.Record.{Did, recordOf, dirtyIn}
 use Rattle.effect.specs.ForCode.{Effect, effectOf, Plays}
 use Rattle.replay.specs.declared.Ended.{Ended}
-use Rattle.replay.specs.Replay.{replayTo, replayOf, numbersOf}
+use Rattle.replay.specs.Replay.{replayTo, replayOf, rowsNumbers}
 use Rattle.replay.specs.Calls.{roomFor, endedAs, endedOf}
 use Rattle.replay.specs.ForCode.{Ready}
 use Rattle.replay.proofs.Laws.{doing}
-use Rattle.replay.proofs.Begins.{begins-sound, begins-within}
+use Rattle.replay.proofs.Begins.{begins-sound, begins-within, counts-fit}
 use Rattle.replay.proofs.Going.{going, doing-few, doing-batch, written-fits}
 use Rattle.replay.proofs.Running.{Counting, Listing, same-doing, counting-all, listing-all}
 
-dirty-few : (fs : List Frame) → dirtyIn fs ≤ 128
+-- a pool has 128 frames
+pub dirty-few : (fs : List Frame) → dirtyIn fs ≤ 128
 unfolding dirtyIn
 dirty-few fs = count-few (λ i. frameAt fs i .dirty) 128
 
@@ -84,9 +85,8 @@ module _ (p : Pool) (t : Tally) (s : List ℕ) (h : Summary) (z : Sized p) (y : 
         let few = accepted-few s h (y .accepted) in
         let b = row-batch f x in
         let m = written-short in
-        within-countable u (f .row)
-        (subst (λ (v : Tally). Within v 4200000000) (sym (c .tally)) (within-more (replayTo p t trace i .tally) (tallyLimit + 16 * i) 4200000000 (omega arith) (going p t trace sound z within i .counts)))
-        (omega arith)
+        let fit = counts-fit in
+        within-countable u (f .row) (tallyLimit + 16 * i) (omega arith) (subst (λ (v : Tally). Within v (tallyLimit + 16 * i)) (sym (c .tally)) (going p t trace sound z within i .counts)) (omega arith)
 
     module _ (rows written : ℕ) (room : roomFor p trace rows written ≡ true) (rows₀ written₀ ls ws : List ℕ) (at : ℕ) (g : Listing p t trace rows₀ written₀ ls ws at i) where
       rooms : (4 * length (trace .pages) ≤ rows) × (writesIn (trace .kinds) + dirtyIn (p .frames) ≤ written)
@@ -136,7 +136,7 @@ module _ (p : Pool) (g : Head) (tab : List ℕ) (e : g ≡ headOf p) (f : frames
     counted-all q left u i c l n = ap (λ (x : Pool). endedAs 0 x u) l ∙ counting-all p t trace q u i (subst (λ (x : Pool). Counting x t trace q u i) (of-parts p g tab e f) c) n
 
     pub listed-all : (rows₀ written₀ rows written : List ℕ) (at i : ℕ) → Listing first t trace rows₀ written₀ rows written at i → i ≡ length (trace .pages)
-        → (rows ≡ sets rows₀ 0 (numbersOf (replayOf p t trace .rows))) × (written ≡ sets written₀ 0 (replayOf p t trace .written))
+        → (rows ≡ sets rows₀ 0 (rowsNumbers (replayOf p t trace .rows))) × (written ≡ sets written₀ 0 (replayOf p t trace .written))
     listed-all rows₀ written₀ rows written at i c n = listing-all p t trace rows₀ written₀ rows written at i (subst (λ (x : Pool). Listing x t trace rows₀ written₀ rows written at i) (of-parts p g tab e f) c) n
 
     pub room-first : (rows written : ℕ) → roomFor p trace rows written ≡ true → roomFor first trace rows written ≡ true

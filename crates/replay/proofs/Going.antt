@@ -13,7 +13,7 @@ use Rattle.pool.proofs.Sizes.{Sized}
 use Rattle.tally.specs.declared.Tally.{Tally}
 use Rattle.tally.specs.Tally.{tallyLimit, countedBy, pagesIn}
 use Rattle.tally.specs.ForCode.{Within}
-use Rattle.tally.proofs.Laws.{within-more, within-counted, pages-snoc}
+use Rattle.tally.proofs.Laws.{within-more, within-counted, raises-snoc}
 use Rattle.effect.specs.Record.{Did, dirtyIn}
 use Rattle.effect.proofs.Kept.{Kept, record-kept}
 use Rattle.replay.specs.Replay.{Played, started, after, replayTo}
@@ -42,7 +42,7 @@ module _ (p : Pool) (t : Tally) (trace : Trace) (s : Sound p) (z : Sized p) {m :
       let pages-few = k .few in
       let b = k .counted in
       let ps = g .pages in
-      let snoc = pages-snoc (r .rows) (d .row) 0 in
+      let snoc = raises-snoc 4 (r .rows) (d .row) 0 in
       record {
         sound = k .sound;
         sized = k .sized;

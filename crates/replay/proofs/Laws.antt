@@ -6,10 +6,9 @@ use native.Mathlib.Omega.{arith}
 use native.Mathlib.Numerals.{add-one}
 use lib.ListN.{length, length-append}
 use lib.Dec.{eqb}
-use borrow.Author.Tests.{ne-eqb}
 use Rattle.search.specs.Search.{oneIf}
 use Rattle.search.proofs.Least.{last-or-below}
-use Rattle.trace.specs.Layout.{Trace, isWrite, writesIn, upTo, recordIn}
+use Rattle.trace.specs.Layout.{Trace, writesIn, upTo, recordIn}
 use Rattle.trace.proofs.Lists.{writes-snoc, upTo-is}
 use Rattle.pool.specs.declared.Pool.{Pool}
 use Rattle.tally.specs.declared.Row.{Row}
@@ -18,28 +17,22 @@ use Rattle.tally.specs.Rows.{rowNumbers}
 use Rattle.tally.specs.Tally.{countedBy, countedRows}
 use Rattle.tally.proofs.Laws.{counted-none, counted-snoc}
 use Rattle.effect.specs.Record.{Did, recordOf}
-use Rattle.replay.specs.Replay.{Played, started, after, replayTo, numbersOf}
+use Rattle.replay.specs.Replay.{Played, started, after, replayTo, rowsNumbers}
 
 -- the rows' numbers
-pub numbers-none : numbersOf [] ≡ []
-unfolding numbersOf
+pub numbers-none : rowsNumbers [] ≡ []
+unfolding rowsNumbers
 numbers-none = refl
 
-pub numbers-snoc : (ws : List Row) (w : Row) → numbersOf (ws ++ (w ∷ [])) ≡ numbersOf ws ++ rowNumbers w
-unfolding numbersOf
+pub numbers-snoc : (ws : List Row) (w : Row) → rowsNumbers (ws ++ (w ∷ [])) ≡ rowsNumbers ws ++ rowNumbers w
+unfolding rowsNumbers
 numbers-snoc [] w = refl
 numbers-snoc (v ∷ ws) w = ap (λ (l : List ℕ). rowNumbers v ++ l) (numbers-snoc ws w)
 
-pub numbers-length : (ws : List Row) → length (numbersOf ws) ≡ 4 * length ws
-unfolding numbersOf
+pub numbers-length : (ws : List Row) → length (rowsNumbers ws) ≡ 4 * length ws
+unfolding rowsNumbers
 numbers-length [] = refl
 numbers-length (w ∷ ws) = let h = numbers-length ws in omega arith
-
--- 1 for a write
-pub write-one : (kind : ℕ) → isWrite kind ≡ oneIf (eqb kind 1)
-write-one zero = refl
-write-one (suc zero) = refl
-write-one (suc (suc k)) = ap oneIf (sym (ne-eqb (suc (suc k)) 1 (λ e. omega arith)))
 
 module _ (p : Pool) (t : Tally) (trace : Trace) where
   -- what record n does
@@ -79,7 +72,7 @@ abbrev pub writesTo : Trace → ℕ → ℕ
 writesTo trace n = writesIn (upTo (λ i. recordIn trace i .kind) n)
 
 pub writes-suc : (trace : Trace) (n : ℕ) → writesTo trace (suc n) ≡ writesTo trace n + oneIf (eqb (recordIn trace n .kind) 1)
-writes-suc trace n = writes-snoc (upTo (λ i. recordIn trace i .kind) n) (recordIn trace n .kind) ∙ ap (λ (m : ℕ). writesTo trace n + m) (write-one (recordIn trace n .kind))
+writes-suc trace n = writes-snoc (upTo (λ i. recordIn trace i .kind) n) (recordIn trace n .kind)
 
 pub writes-all : (trace : Trace) → writesTo trace (length (trace .kinds)) ≡ writesIn (trace .kinds)
 writes-all trace = ap writesIn (upTo-is (λ i. recordIn trace i .kind) (trace .kinds) (λ i l. refl))

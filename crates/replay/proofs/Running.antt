@@ -16,7 +16,7 @@ use Rattle.tally.specs.Tally.{countedBy}
 use Rattle.effect.specs.Record.{Did, recordOf}
 use Rattle.effect.specs.ForCode.{Effect, effectOf}
 use Rattle.replay.specs.declared.Ended.{Ended}
-use Rattle.replay.specs.Replay.{Played, replayTo, replayOf, numbersOf}
+use Rattle.replay.specs.Replay.{Played, replayTo, replayOf, rowsNumbers}
 use Rattle.replay.specs.Calls.{endedAs, endedOf}
 use Rattle.replay.proofs.Laws.{doing, replay-none, replay-more, rows-length, numbers-none, numbers-snoc, numbers-length}
 
@@ -28,15 +28,15 @@ pub record Counting (p : Pool) (t : Tally) (trace : Trace) (q : Pool) (u : Tally
 -- and the lists
 pub record Listing (p : Pool) (t : Tally) (trace : Trace) (rows₀ written₀ rows written : List ℕ) (at i : ℕ) : Type 0 where
   pub at-end : at ≡ length (replayTo p t trace i .written)
-  pub rows-hold : rows ≡ sets rows₀ 0 (numbersOf (replayTo p t trace i .rows))
+  pub rows-hold : rows ≡ sets rows₀ 0 (rowsNumbers (replayTo p t trace i .rows))
   pub written-hold : written ≡ sets written₀ 0 (replayTo p t trace i .written)
 
 -- stores change no length
 pub stored-length : (l l′ vs : List ℕ) (at n : ℕ) → l′ ≡ sets l at vs → length l ≡ n → length l′ ≡ n
 stored-length l l′ vs at n e h = ap length e ∙ length-sets l at vs ∙ h
 
-rows-more : (l₀ l : List ℕ) (ws : List Row) (w v : Row) (i : ℕ) → v ≡ w → length ws ≡ i → l ≡ sets l₀ 0 (numbersOf ws) → sets l (4 * i) (rowNumbers v) ≡ sets l₀ 0 (numbersOf (ws ++ (w ∷ [])))
-rows-more l₀ l ws w v i e n h = rw (h, e, ← n, numbers-snoc ws w, sets-append (numbersOf ws) (rowNumbers w) l₀ 0, numbers-length ws, zero-add)
+rows-more : (l₀ l : List ℕ) (ws : List Row) (w v : Row) (i : ℕ) → v ≡ w → length ws ≡ i → l ≡ sets l₀ 0 (rowsNumbers ws) → sets l (4 * i) (rowNumbers v) ≡ sets l₀ 0 (rowsNumbers (ws ++ (w ∷ [])))
+rows-more l₀ l ws w v i e n h = rw (h, e, ← n, numbers-snoc ws w, sets-append (rowsNumbers ws) (rowNumbers w) l₀ 0, numbers-length ws, zero-add)
 
 written-more : (l₀ l vs us ws : List ℕ) (at : ℕ) → us ≡ ws → at ≡ length vs → l ≡ sets l₀ 0 vs → sets l at us ≡ sets l₀ 0 (vs ++ ws)
 written-more l₀ l vs us ws at e n h = rw (h, e, n, sets-append vs ws l₀ 0, zero-add)
@@ -48,7 +48,7 @@ module _ (p : Pool) (t : Tally) (trace : Trace) where
   pub listing-none : (rows written : List ℕ) → Listing p t trace rows written rows written 0 0
   listing-none rows written = record {
     at-end = sym (ap (λ (r : Played). length (r .written)) (replay-none p t trace));
-    rows-hold = sym (ap (λ (r : Played). sets rows 0 (numbersOf (r .rows))) (replay-none p t trace) ∙ ap (sets rows 0) numbers-none);
+    rows-hold = sym (ap (λ (r : Played). sets rows 0 (rowsNumbers (r .rows))) (replay-none p t trace) ∙ ap (sets rows 0) numbers-none);
     written-hold = sym (ap (λ (r : Played). sets written 0 (r .written)) (replay-none p t trace));
   }
 
@@ -76,7 +76,7 @@ module _ (p : Pool) (t : Tally) (trace : Trace) where
         let all = ap (λ (z : Played). length (z .written)) more in
         record {
           at-end = omega arith;
-          rows-hold = x ∙ rows-more rows₀ rows (r .rows) (doing p t trace i .row) w i (a ∙ ap (λ (z : Did). z .row) h) (rows-length p t trace i) (g .rows-hold) ∙ sym (ap (λ (z : Played). sets rows₀ 0 (numbersOf (z .rows))) more);
+          rows-hold = x ∙ rows-more rows₀ rows (r .rows) (doing p t trace i .row) w i (a ∙ ap (λ (z : Did). z .row) h) (rows-length p t trace i) (g .rows-hold) ∙ sym (ap (λ (z : Played). sets rows₀ 0 (rowsNumbers (z .rows))) more);
           written-hold = y ∙ written-more written₀ written (r .written) (d .written) (doing p t trace i .written) at (ap (λ (z : Did). z .written) h) end (g .written-hold) ∙ sym (ap (λ (z : Played). sets written₀ 0 (z .written)) more);
         }
 
@@ -85,5 +85,5 @@ module _ (p : Pool) (t : Tally) (trace : Trace) where
   counting-all q u i c e = rw (c .pool, c .tally, e)
 
   pub listing-all : (rows₀ written₀ rows written : List ℕ) (at i : ℕ) → Listing p t trace rows₀ written₀ rows written at i → i ≡ length (trace .pages)
-      → (rows ≡ sets rows₀ 0 (numbersOf (replayOf p t trace .rows))) × (written ≡ sets written₀ 0 (replayOf p t trace .written))
+      → (rows ≡ sets rows₀ 0 (rowsNumbers (replayOf p t trace .rows))) × (written ≡ sets written₀ 0 (replayOf p t trace .written))
   listing-all rows₀ written₀ rows written at i g e = (rw e at (g .rows-hold), rw e at (g .written-hold))

@@ -19,7 +19,7 @@ use Rattle.tally.specs.declared.Tally.{Tally}
 use Rattle.tally.specs.Rows.{refusedRow}
 use Rattle.tally.specs.Tally.{tallyLimit, countedBy}
 use Rattle.tally.specs.ForCode.{Countable}
-use Rattle.tally.proofs.Laws.{within-more, within-countable}
+use Rattle.tally.proofs.Laws.{within-countable}
 use Rattle.effect.specs.Record.{recordOf}
 use Rattle.table.specs.Table.{poolIn}
 use Rattle.effect.specs.declared.Worked.{Worked}
@@ -67,7 +67,7 @@ module _ (p : Pool) (t : Tally) (page kind : ℕ) where
       let f = k .few in
       let c = k .counted in
       let batch = ap (λ (f : Effect). f .row .batch) y ∙ ap (λ (x : Pool). recordOf x page kind .row .batch) same in
-      within-countable t (e .row) (within-more t tallyLimit 4200000000 (omega arith) (begins-within p t (m .0))) (omega arith)
+      within-countable t (e .row) tallyLimit (omega arith) (begins-within p t (m .0)) (omega arith)
 
   pub step-refused : (list : List ℕ) (r : ℕ) (w : Row) → r ≡ stepRefusal p t kind (length list) → (r ≡ 0 → ⊥) → w ≡ refusedRow r
       → StepInto p t page kind list (record { refusal = r; row = w; pool = p; tally = t }) list

@@ -2,11 +2,10 @@
 use Prim.Native.Nat.{ℕ, zero, suc, _+_, _*_}
 use mathlib.Core.Path.{_≡_}
 use mathlib.Core.Bool.{Bool, _&&_}
-use mathlib.Core.List.{List, []}
+use mathlib.Core.List.{List}
 use lib.ListN.{length}
-use lib.Seq.{sets}
 use lib.Dec.{leb}
-use Rattle.refusal.specs.Refusals.{demand, orElse, badField, noRoom, notSound, otherSettings}
+use Rattle.refusal.specs.Refusals.{demand, orElse, stored, badField, noRoom, notSound, otherSettings}
 use Rattle.settings.specs.Settings.{sameSettings}
 use Rattle.trace.specs.Layout.{Trace, knownKind, writesIn}
 use Rattle.trace.specs.Check.{refusalOf, traceOf}
@@ -18,16 +17,11 @@ use Rattle.tally.specs.Tally.{tallyWithin, countedBy}
 use Rattle.effect.specs.Record.{Did, recordOf, dirtyIn}
 use Rattle.replay.specs.declared.Stepped.{Stepped}
 use Rattle.replay.specs.declared.Ended.{Ended}
-use Rattle.replay.specs.Replay.{Played, replayOf, numbersOf}
+use Rattle.replay.specs.Replay.{Played, replayOf, rowsNumbers}
 
 -- 14 unless the pool is sound and no count of the tally handed in is above 4,000,000,000
 unfoldable pub mayBegin : Pool → Tally → Bool
 mayBegin p t = soundPool p && tallyWithin t
-
--- what goes to a lent list: nothing where the call is refused
-abbrev pub unlessRefused : ℕ → List ℕ → List ℕ
-unlessRefused zero l = l
-unlessRefused (suc r) l = []
 
 -- a single step checks 14, then 6 for a bad kind, then 13: it needs as many write places as the batch size
 unfoldable pub stepRefusal : Pool → Tally → ℕ → ℕ → ℕ
@@ -44,7 +38,7 @@ steppedOf (suc r) p t d = record { refusal = suc r; row = refusedRow (suc r); po
 -- the step's answer, and every place of the lent list
 pub record StepInto (p : Pool) (t : Tally) (page kind : ℕ) (list : List ℕ) (r : Stepped) (list′ : List ℕ) : Type 0 where
   pub answers : r ≡ steppedOf (stepRefusal p t kind (length list)) p t (recordOf p page kind)
-  pub list-holds : list′ ≡ sets list 0 (unlessRefused (stepRefusal p t kind (length list)) (recordOf p page kind .written))
+  pub list-holds : list′ ≡ stored (stepRefusal p t kind (length list)) (recordOf p page kind .written) list
 
 -- trace checks run 1 to 8 in that order, then replay's 15; 14 comes before all
 unfoldable pub countsRefusal : Pool → Tally → List ℕ → ℕ
@@ -77,5 +71,5 @@ countsOf p t s = endedOf (countsRefusal p t s) p t (replayOf p t (traceOf s))
 -- replay with rows: its answer, and every place of both lent lists
 pub record ReplayInto (p : Pool) (t : Tally) (s rows written : List ℕ) (r : Ended) (rows′ written′ : List ℕ) : Type 0 where
   pub answers : r ≡ endedOf (replayRefusal p t s (length rows) (length written)) p t (replayOf p t (traceOf s))
-  pub rows-hold : rows′ ≡ sets rows 0 (unlessRefused (replayRefusal p t s (length rows) (length written)) (numbersOf (replayOf p t (traceOf s) .rows)))
-  pub written-hold : written′ ≡ sets written 0 (unlessRefused (replayRefusal p t s (length rows) (length written)) (replayOf p t (traceOf s) .written))
+  pub rows-hold : rows′ ≡ stored (replayRefusal p t s (length rows) (length written)) (rowsNumbers (replayOf p t (traceOf s) .rows)) rows
+  pub written-hold : written′ ≡ stored (replayRefusal p t s (length rows) (length written)) (replayOf p t (traceOf s) .written) written

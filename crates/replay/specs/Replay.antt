@@ -38,6 +38,6 @@ module _ (p : Pool) (t : Tally) (trace : Trace) where
   replayOf = replayTo (length (trace .pages))
 
 -- the numbers of rows, four each
-unfoldable pub numbersOf : List Row → List ℕ
-numbersOf [] = []
-numbersOf (w ∷ ws) = rowNumbers w ++ numbersOf ws
+unfoldable pub rowsNumbers : List Row → List ℕ
+rowsNumbers [] = []
+rowsNumbers (w ∷ ws) = rowNumbers w ++ rowsNumbers ws

@@ -79,11 +79,11 @@ pub fn step(pool: Pool, tally: Tally, page: u32, kind: u16, written: &mut [u32])
     );
     let row = e.row;
     let after = tally::raised(tally, row);
-    let left = table::pool_of(e.head, &table, access, write);
+    let end = table::pool_of(e.head, &table, access, write);
     Stepped {
         refusal: 0,
         row: row,
-        pool: left,
+        pool: end,
         tally: after,
     }
 }
@@ -141,13 +141,13 @@ fn run(
         let e = effect::play(h, &mut table, &mut access, &mut write, page, kind, list, at);
         let row = e.row;
         tally::put_row(rows, 4 * i, row);
-        t = tally::counted(t, row);
+        t = tally::raised(t, row);
         at = at + row.batch as usize;
         h = e.head;
         i += 1;
     }
-    let left = table::pool_of(h, &table, access, write);
-    ending(0, left, t)
+    let end = table::pool_of(h, &table, access, write);
+    ending(0, end, t)
 }
 
 // Every record of an accepted trace, counted only: the pages of one batch are written over those of the one before. Who has checked pool,
@@ -179,12 +179,12 @@ pub fn count(pool: Pool, tally: Tally, bytes: &[u8], summary: Summary) -> Ended
             0,
         );
         let row = e.row;
-        t = tally::counted(t, row);
+        t = tally::raised(t, row);
         h = e.head;
         i += 1;
     }
-    let left = table::pool_of(h, &table, access, write);
-    ending(0, left, t)
+    let end = table::pool_of(h, &table, access, write);
+    ending(0, end, t)
 }
 
 // An accepted trace: 15, then its records.
@@ -255,12 +255,13 @@ pub fn replay(
 ) -> Ended
     ensures { λ r. ⌜ ReplayInto pool tally (now (bytes .entry)) (now (rows .entry)) (now (written .entry)) r (now (rows .exit)) (now (written .exit)) ⌝ }
 {
-    if !may_begin(pool, tally) {
+    let begins = may_begin(pool, tally);
+    if !begins {
         return ending(refusal::NOT_SOUND, pool, tally);
     }
     let c = trace::check(bytes);
     match c {
-        Checked::Refused(r) => ending(r, pool, tally),
+        Checked::Refused(number) => ending(number, pool, tally),
         Checked::Accepted(summary) => replay_accepted(pool, tally, bytes, summary, rows, written),
     }
 }

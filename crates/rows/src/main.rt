@@ -5,9 +5,9 @@ fn list_rows(bytes: &[u8]) {
     listing::list(fresh, tally::zero(), bytes);
 }
 
-// The longest trace has 64,048 bytes. One byte more is read, so that a longer input shows its wrong length.
+// One byte more than the longest trace has is read, so that a longer input shows its wrong length.
 fn main() {
-    let mut space = [0u8; 64049];
+    let mut space = [0u8; trace::BYTE_LIMIT + 1];
     let n = io::read_full(libc::STDIN_FILENO, &mut space);
     list_rows(&space[..n]);
 }

@@ -11,7 +11,7 @@ use Rattle.word.proofs.Laws.{Bytes, sets-front}
 use Rattle.word.specs.declared.Order.{Order}
 use Rattle.word.specs.declared.Order.the-variants.{High, Low}
 use Rattle.refusal.specs.Refusals.{demand, orElse, noRoom}
-use Rattle.refusal.proofs.Laws.{met, neither, or-first}
+use Rattle.refusal.proofs.Laws.{met, neither, or-first, unstored}
 use Rattle.trace.specs.Layout.{writesIn}
 use Rattle.trace.specs.Encode.{headerBytes, recordsTo, other, turned, Proper}
 use Rattle.trace.specs.Check.{refusalOf, traceOf, decode, checkOf}
@@ -22,7 +22,6 @@ use Rattle.trace.proofs.Accept.{accepted, refused-is}
 use Rattle.trace.proofs.Sizes.{length-encode}
 use Rattle.trace.proofs.Round.{decode-encode}
 use Rattle.trace.proofs.Whole.{proper, encode-trace, length-trace, decode-whole}
-use Rattle.trace.proofs.Laws.{unstored}
 use Rattle.scribe.proofs.Laws.{encode-stores}
 use Rattle.scribe.specs.Write.{convertRefusal, converted, ConvertedTo, ConvertsBack}
 
@@ -41,7 +40,7 @@ convert-refused s out r e =
     let f = refused-is s r e in
     let next = demand (leb (length s) (length out)) noRoom 0 in
     let first : orElse (refusalOf s) next ≡ r = rw (f .0) (sym (or-first r next (f .1))) in
-    record { answers = sym first; bytes-hold = rw first (unstored converted r (traceOf s) out (f .1)) }
+    record { answers = sym first; bytes-hold = rw first (unstored r (converted (traceOf s)) out (f .1)) }
 
 pub convert-whole : (s : List ℕ) (h : Summary) (out out′ : List ℕ) → checkOf s ≡ Accepted h → length s ≤ length out → out′ ≡ sets out 0 (converted (traceOf s))
     → ConvertedTo s out 0 out′

@@ -12,7 +12,7 @@ use Rattle.trace.specs.Check.{summaryOf, readRefusal, ReadInto, WritesAgain}
 use Rattle.trace.specs.declared.Summary.{Summary}
 use Rattle.trace.specs.declared.Checked.{Checked}
 use Rattle.trace.specs.declared.Checked.the-variants.{Accepted}
-use Rattle.trace.proofs.Laws.{unstored}
+use Rattle.refusal.proofs.Laws.{unstored}
 use Rattle.trace.proofs.Sizes.{length-encode}
 use Rattle.trace.proofs.Round.{decode-encode}
 use Rattle.trace.proofs.Whole.{decode-whole}
@@ -23,7 +23,7 @@ pub write-whole : (t : Trace) (out out′ : List ℕ) → writeRefusal t (length
 write-whole t out out′ z e = record { answers = sym z; bytes-hold = rw z e }
 
 pub write-refused : (t : Trace) (out : List ℕ) (r : ℕ) → r ≡ writeRefusal t (length out) → (r ≡ 0 → ⊥) → WrittenTo t out r out
-write-refused t out r e h = record { answers = e; bytes-hold = rw (← e) (unstored encode r t out h) }
+write-refused t out r e h = record { answers = e; bytes-hold = rw (← e) (unstored r (encode t) out h) }
 
 -- what was written decodes to what was given, whose numbers fit their widths
 pub reads-back : (t : Trace) (out : List ℕ) (r : ℕ) (out′ : List ℕ) → t .settings .seed < 4294967296 → ((i : ℕ) → getD (t .pages) i 0 < 4294967296)

@@ -5,11 +5,11 @@ use mathlib.Core.Bool.{_&&_}
 use mathlib.Core.Path.{_≡_}
 use lib.ListN.{length, take}
 use lib.Dec.{eqb, leb}
-use Rattle.refusal.specs.Refusals.{demand, orElse, tooMany, wrongLength, badField, outOfRange, noRoom}
+use Rattle.refusal.specs.Refusals.{demand, orElse, stored, tooMany, wrongLength, badField, outOfRange, noRoom}
 use Rattle.settings.specs.Settings.{inRange}
 use Rattle.trace.specs.Layout.{Trace, recordLimit, fileLength, knownKinds}
 use Rattle.trace.specs.Encode.{encode, turned}
-use Rattle.trace.specs.Check.{refusalOf, traceOf, outcome, decode, putInto}
+use Rattle.trace.specs.Check.{refusalOf, traceOf, decode}
 use Rattle.trace.specs.Check.Outcome.{Whole}
 
 -- the writer checks 4 (longer list), 5, 6, 8, 13, where it is lent so many bytes
@@ -24,7 +24,7 @@ writeRefusal t room =
 -- the writer on lent bytes: its answer, and every byte afterwards
 pub record WrittenTo (t : Trace) (out : List ℕ) (answer : ℕ) (out′ : List ℕ) : Type 0 where
   pub answers : answer ≡ writeRefusal t (length out)
-  pub bytes-hold : out′ ≡ putInto encode (outcome (writeRefusal t (length out)) t) out
+  pub bytes-hold : out′ ≡ stored (writeRefusal t (length out)) (encode t) out
 
 -- writing, then reading: where the writer refuses nothing, what it stored decodes to what it was given
 abbrev pub ReadsBack : Trace → ℕ → List ℕ → Type 0
@@ -41,7 +41,7 @@ convertRefusal s room = orElse (refusalOf s) (demand (leb (length s) room) noRoo
 -- the converter on lent bytes: its answer, and every byte afterwards
 pub record ConvertedTo (s out : List ℕ) (answer : ℕ) (out′ : List ℕ) : Type 0 where
   pub answers : answer ≡ convertRefusal s (length out)
-  pub bytes-hold : out′ ≡ putInto converted (outcome (convertRefusal s (length out)) (traceOf s)) out
+  pub bytes-hold : out′ ≡ stored (convertRefusal s (length out)) (converted (traceOf s)) out
 
 -- converting, then converting again: where the converter refuses nothing, what it stored decodes to the same trace in the other order,
 -- and that converts to the first bytes

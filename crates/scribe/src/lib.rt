@@ -3,13 +3,15 @@ ghost use mathlib.Core.Path.{_≡_};
 ghost use Prim.Native.Nat.{_+_, _≤_};
 ghost use lib.ListN.{length};
 ghost use lib.Seq.{sets};
-ghost use Rattle.trace.specs.Layout.{recordLimit, fileLength, knownKinds, writesIn, traceFrom};
+ghost use Rattle.trace.specs.Layout.{recordLimit, headerLength, fileLength, knownKinds, writesIn, traceFrom};
 ghost use Rattle.trace.specs.Encode.{recordsTo, encode, other};
 ghost use Rattle.trace.specs.Check.{checkOf, traceOf};
 ghost use Rattle.scribe.specs.Write.{writeRefusal, WrittenTo, ReadsBack, ConvertedTo, ConvertsBack};
 use refusal::demanded;
 use settings::Settings;
 use trace::Checked;
+use trace::HEADER_LENGTH;
+use trace::RECORD_LENGTH;
 use trace::Summary;
 use word::Order;
 
@@ -39,11 +41,17 @@ fn survey_kinds(kinds: &[u16]) -> Kinds
 
 fn put_records(out: &mut [u8], order: Order, pages: &[u32], kinds: &[u16])
     requires { ⌜ (length (now pages) ≡ length (now kinds)) × (length (now pages) ≤ recordLimit) × (fileLength (length (now pages)) ≤ length (now out)) ⌝ }
-    ensures { λ _. ⌜ now (out .exit) ≡ sets (now (out .entry)) 48 (recordsTo order (now (pages .entry)) (now (kinds .entry)) (length (now (pages .entry)))) ⌝ }
+    ensures { λ _. ⌜ now (out .exit) ≡ sets (now (out .entry)) headerLength (recordsTo order (now (pages .entry)) (now (kinds .entry)) (length (now (pages .entry)))) ⌝ }
 {
     let mut i: usize = 0;
     while i < pages.len() {
-        fields::put_record(out, 48 + 8 * i, order, pages[i], kinds[i]);
+        fields::put_record(
+            out,
+            HEADER_LENGTH + RECORD_LENGTH * i,
+            order,
+            pages[i],
+            kinds[i],
+        );
         i += 1;
     }
 }
@@ -66,7 +74,11 @@ fn write_refusal(settings: Settings, order: Order, pages: &[u32], kinds: &[u16],
 {
     if (pages.len() <= trace::RECORD_LIMIT) & (kinds.len() <= trace::RECORD_LIMIT) {
         let found = survey_kinds(kinds);
-        let fits = demanded(48 + 8 * pages.len() <= room, refusal::NO_ROOM, 0);
+        let fits = demanded(
+            HEADER_LENGTH + RECORD_LENGTH * pages.len() <= room,
+            refusal::NO_ROOM,
+            0,
+        );
         let ranges = demanded(settings::in_range(settings), refusal::OUT_OF_RANGE, fits);
         let known = demanded(found.known, refusal::BAD_FIELD, ranges);
         demanded(pages.len() == kinds.len(), refusal::WRONG_LENGTH, known)
@@ -100,13 +112,19 @@ fn other_order(order: Order) -> Order
 // The records of an accepted trace in an order, at their places in `out`.
 fn convert_records(bytes: &[u8], summary: Summary, order: Order, out: &mut [u8])
     requires { ⌜ (checkOf (now bytes) ≡ Checked.Accepted summary) × (length (now bytes) ≤ length (now out)) ⌝ }
-    ensures { λ _. ⌜ now (out .exit) ≡ sets (now (out .entry)) 48 (recordsTo order (traceOf (now (bytes .entry)) .pages) (traceOf (now (bytes .entry)) .kinds) (summary .count)) ⌝ }
+    ensures { λ _. ⌜ now (out .exit) ≡ sets (now (out .entry)) headerLength (recordsTo order (traceOf (now (bytes .entry)) .pages) (traceOf (now (bytes .entry)) .kinds) (summary .count)) ⌝ }
 {
     let n = summary.count as usize;
     let mut i: usize = 0;
     while i < n {
         let record = trace::record_at(bytes, summary, i);
-        fields::put_record(out, 48 + 8 * i, order, record.page, record.kind);
+        fields::put_record(
+            out,
+            HEADER_LENGTH + RECORD_LENGTH * i,
+            order,
+            record.page,
+            record.kind,
+        );
         i += 1;
     }
 }

@@ -16,7 +16,7 @@ use Rattle.pool.specs.declared.Frame.{Frame}
 use Rattle.pool.specs.declared.Pool.{Pool}
 use Rattle.pool.specs.Pool.{emptyFrame, frameAt, withCount, withDirty}
 use Rattle.table.specs.declared.Head.{Head}
-use Rattle.table.specs.Table.{frameIn, framesTo, framesIn, headOf, poolIn}
+use Rattle.table.specs.Table.{tableLength, guessStart, frameIn, framesTo, framesIn, headOf, poolIn}
 use Rattle.table.proofs.Cells.{place, stores, other-frame, other-field, own-field}
 
 pub frames-long : (t : List ℕ) (n : ℕ) → length (framesTo t n) ≡ n
@@ -66,7 +66,7 @@ pub record Fits (fr : Frame) : Type 0 where
   pub accesses : fr .accesses < 256
   pub writes : fr .writes < 256
 
-module _ (t : List ℕ) (i : ℕ) (l : i < 128) (n : length t ≡ 2048) where
+module _ (t : List ℕ) (i : ℕ) (l : i < 128) (n : length t ≡ tableLength) where
   -- all eight numbers
   pub put-held : (fr : Frame) (u d : ℕ) → Fits fr → u ≡ oneIf (fr .used) → d ≡ oneIf (fr .dirty)
       → framesIn (stores t i (u ∷ fr .page ∷ d ∷ fr .pins ∷ fr .count ∷ fr .last ∷ fr .accesses ∷ fr .writes ∷ []) 0) ≡ set (framesIn t) i fr
@@ -120,11 +120,11 @@ module _ (t : List ℕ) (i : ℕ) (l : i < 128) (n : length t ≡ 2048) where
       (λ j m q. others-held t (0 ∷ []) 2 i j l m q)
 
 -- what stands behind the frames is read by none
-pub behind : (t : List ℕ) (at v n : ℕ) → 1024 ≤ at → n ≤ 128 → framesTo (set t at v) n ≡ framesTo t n
+pub behind : (t : List ℕ) (at v n : ℕ) → guessStart ≤ at → n ≤ 128 → framesTo (set t at v) n ≡ framesTo t n
 unfolding framesTo frameIn
 behind t at v zero l m = refl
 behind t at v (suc n) l m =
-    let o : (d : ℕ) → d < 1024 → getD (set t at v) d 0 ≡ getD t d 0 = λ d b. getD-set-other t at d v 0 (λ e. omega arith) in
+    let o : (d : ℕ) → d < guessStart → getD (set t at v) d 0 ≡ getD t d 0 = λ d b. getD-set-other t at d v 0 (λ e. omega arith) in
     rw (
       behind t at v n l (omega arith),
       o n (omega arith),

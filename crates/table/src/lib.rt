@@ -8,10 +8,15 @@ ghost use mathlib.Core.Bool.{false};
 ghost use Prim.Native.Nat.{_%_, _<_};
 ghost use lib.ListN.{length, set};
 ghost use Rattle.pool.specs.Pool.{frameAt, withCount, nowAt, withDirty};
-ghost use Rattle.table.specs.Table.{framesIn, guessPlace, guessIn, headOf, poolIn};
+ghost use Rattle.table.specs.Table.{tableLength, framesIn, guessPlace, guessIn, headOf, poolIn};
 
-// Eight numbers to a frame, then 1,024 guesses.
-pub type Table = [u32; 2048];
+// Where the guesses begin: behind eight numbers to a frame.
+const GUESSES: usize = 1024;
+
+// Then 1,024 guesses.
+pub const LENGTH: usize = 2048;
+
+pub type Table = [u32; LENGTH];
 
 // What a pool holds beside its frames and logs.
 pub struct Head {
@@ -36,10 +41,10 @@ pub fn head_of(p: Pool) -> Head
 
 // Now: the epoch of the next reference.
 pub fn now_of(h: Head) -> u32
-    requires { ⌜ 0 < h .settings .epoch ⌝ }
+    requires { ⌜ 0 < h .settings .span ⌝ }
     ensures { λ r. ⌜ r ≡ nowAt (h .settings) (h .k) ⌝ }
 {
-    h.k / h.settings.epoch
+    h.k / h.settings.span
 }
 
 // Any number as one of a byte, so that every table reads as frames.
@@ -68,7 +73,7 @@ pub fn frame_at(table: &Table, i: usize) -> Frame
 
 // Frame i becomes another. What stores is lent a slice, since of a lent array the prover is not told the length.
 pub fn put(table: &mut [u32], i: usize, fr: Frame)
-    requires { ⌜ (i < 128) × (length (now table) ≡ 2048) ⌝ }
+    requires { ⌜ (i < 128) × (length (now table) ≡ tableLength) ⌝ }
     ensures { λ _. ⌜ framesIn (now (table .exit)) ≡ set (framesIn (now (table .entry))) i fr ⌝ }
 {
     table[i] = search::one_if(fr.used);
@@ -83,7 +88,7 @@ pub fn put(table: &mut [u32], i: usize, fr: Frame)
 
 // Frame i gets another clock count.
 pub fn put_count(table: &mut [u32], i: usize, n: u8)
-    requires { ⌜ (i < 128) × (length (now table) ≡ 2048) ⌝ }
+    requires { ⌜ (i < 128) × (length (now table) ≡ tableLength) ⌝ }
     ensures { λ _. ⌜ framesIn (now (table .exit)) ≡ set (framesIn (now (table .entry))) i (withCount (frameAt (framesIn (now (table .entry))) i) n) ⌝ }
 {
     table[i + 512] = n as u32;
@@ -91,7 +96,7 @@ pub fn put_count(table: &mut [u32], i: usize, n: u8)
 
 // Frame i becomes clean.
 pub fn clean(table: &mut [u32], i: usize)
-    requires { ⌜ (i < 128) × (length (now table) ≡ 2048) ⌝ }
+    requires { ⌜ (i < 128) × (length (now table) ≡ tableLength) ⌝ }
     ensures { λ _. ⌜ framesIn (now (table .exit)) ≡ set (framesIn (now (table .entry))) i (withDirty (frameAt (framesIn (now (table .entry))) i) false) ⌝ }
 {
     table[i + 256] = 0;
@@ -101,20 +106,20 @@ pub fn clean(table: &mut [u32], i: usize)
 pub fn guess(table: &Table, page: u32) -> usize
     ensures { λ r. ⌜ (r ≡ guessIn (now (table .entry)) page) × (r < 128) ⌝ }
 {
-    (table[1024 + (page % 1024) as usize] % 128) as usize
+    (table[GUESSES + (page % 1024) as usize] % 128) as usize
 }
 
 // Notes that a page is in frame i. The frames stay as they are.
 pub fn note(table: &mut [u32], page: u32, i: usize)
-    requires { ⌜ (i < 128) × (length (now table) ≡ 2048) ⌝ }
+    requires { ⌜ (i < 128) × (length (now table) ≡ tableLength) ⌝ }
     ensures { λ _. ⌜ (now (table .exit) ≡ set (now (table .entry)) (guessPlace page) i) × (framesIn (now (table .exit)) ≡ framesIn (now (table .entry))) ⌝ }
 {
-    table[1024 + (page % 1024) as usize] = i as u32;
+    table[GUESSES + (page % 1024) as usize] = i as u32;
 }
 
 // Notes the page of frame i, where it is in use.
 fn note_used(table: &mut [u32], fr: Frame, i: usize)
-    requires { ⌜ (i < 128) × (length (now table) ≡ 2048) ⌝ }
+    requires { ⌜ (i < 128) × (length (now table) ≡ tableLength) ⌝ }
     ensures { λ _. ⌜ framesIn (now (table .exit)) ≡ framesIn (now (table .entry)) ⌝ }
 {
     if fr.used {
@@ -127,7 +132,7 @@ fn note_used(table: &mut [u32], fr: Frame, i: usize)
 pub fn table_of(p: Pool) -> Table
     ensures { λ r. ⌜ framesIn r ≡ p .frames ⌝ }
 {
-    let mut table = [0u32; 2048];
+    let mut table = [0u32; LENGTH];
     let mut i: usize = 0;
     while i < 128 {
         let fr = p.frames[i];

@@ -26,8 +26,8 @@ abbrev pub missDirty : ℕ
 missDirty = 3
 
 -- "4 unpinned"
-abbrev pub unpinned : ℕ
-unpinned = 4
+abbrev pub unpinDone : ℕ
+unpinDone = 4
 
 -- "100 + r for refusal r"
 abbrev pub refusedBy : ℕ → ℕ

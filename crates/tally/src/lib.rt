@@ -4,7 +4,7 @@ ghost use Prim.Native.Nat.{_+_, _≤_};
 ghost use lib.ListN.{length};
 ghost use lib.Seq.{sets};
 ghost use Rattle.tally.specs.Rows.{rowNumbers, refusedRow};
-ghost use Rattle.tally.specs.Tally.{countedBy, tallyWithin, zeroTally};
+ghost use Rattle.tally.specs.Tally.{numbersOf, countedBy, tallyWithin, zeroTally};
 ghost use Rattle.tally.specs.ForCode.{Countable};
 
 pub struct Row {
@@ -31,10 +31,13 @@ pub const MISS_CLEAN: u32 = 2;
 
 pub const MISS_DIRTY: u32 = 3;
 
-pub const UNPINNED: u32 = 4;
+pub const UNPIN_DONE: u32 = 4;
 
 // Refusal r is the outcome REFUSED + r.
 pub const REFUSED: u32 = 100;
+
+// How many counts a tally has.
+pub const COUNTS: usize = 6;
 
 // The most that a count may be in a tally that is handed in.
 pub const TALLY_LIMIT: u32 = 4000000000;
@@ -53,19 +56,36 @@ pub fn zero() -> Tally
     }
 }
 
+// The counts, in the order in which they go everywhere.
+pub fn numbers(t: Tally) -> [u32; COUNTS]
+    ensures { λ r. ⌜ r ≡ numbersOf t ⌝ }
+{
+    [
+        t.hits,
+        t.misses,
+        t.evictions,
+        t.batches,
+        t.written,
+        t.refused,
+    ]
+}
+
 // Whether no count is above the limit.
 pub fn within(t: Tally) -> bool
     ensures { λ r. ⌜ r ≡ tallyWithin t ⌝ }
 {
-    (t.hits <= TALLY_LIMIT)
-        & ((t.misses <= TALLY_LIMIT)
-            & ((t.evictions <= TALLY_LIMIT)
-                & ((t.batches <= TALLY_LIMIT)
-                    & ((t.written <= TALLY_LIMIT) & (t.refused <= TALLY_LIMIT)))))
+    let l = numbers(t);
+    let mut ok = true;
+    let mut i: usize = 0;
+    while i < COUNTS {
+        ok = ok & (l[i] <= TALLY_LIMIT);
+        i += 1;
+    }
+    ok
 }
 
 // The tally after one more row: pins count as hits or misses, unpins as neither.
-pub fn counted(t: Tally, row: Row) -> Tally
+fn counted(t: Tally, row: Row) -> Tally
     requires { ⌜ Countable t row ⌝ }
     ensures { λ r. ⌜ r ≡ countedBy t row ⌝ }
 {

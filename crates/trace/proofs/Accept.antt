@@ -11,7 +11,7 @@ use Rattle.word.specs.declared.Order.{Order}
 use Rattle.refusal.specs.Refusals.{demand, badField, outOfRange, tooShort, wrongWrites}
 use Rattle.refusal.proofs.Laws.{met, neither}
 use Rattle.settings.specs.Settings.{inRange}
-use Rattle.trace.specs.Layout.{headerLength, fileLength, markOf, firstZeroAt, lastZeroAt, writesAt, countAt, settingsAt, pageAt, kindAt, kindsAt, zerosAt, knownKinds, allZero, writesIn, traceAt, recordIn, recordLimit}
+use Rattle.trace.specs.Layout.{headerLength, fileLength, markOf, firstZeroAt, lastZeroAt, writesAt, countAt, settingsIn, pageAt, kindAt, kindsAt, zerosAt, knownKinds, allZero, writesIn, traceAt, recordIn, recordLimit}
 use Rattle.trace.specs.Check.{zerosRight, layoutRefusal, contentRefusal, refusalIn, refusalMarked, refusalOf, traceOf, decode, summaryOf, checkOf, numberOfAnswer}
 use Rattle.trace.specs.declared.Mark.{Mark}
 use Rattle.trace.specs.declared.Mark.the-variants.{Known, Unknown}
@@ -28,7 +28,7 @@ pub record Filled (o : Order) (s : List ℕ) : Type 0 where
   pub zeros : allZero (zerosAt o s) ≡ true
   pub known : knownKinds (kindsAt o s) ≡ true
   pub writes : writesAt o s ≡ writesIn (kindsAt o s)
-  pub range : inRange (settingsAt o s) ≡ true
+  pub range : inRange (settingsIn o s) ≡ true
 
 filled : (o : Order) (s : List ℕ) → contentRefusal o s ≡ 0 → Filled o s
 unfolding contentRefusal
@@ -39,7 +39,7 @@ filled o s h =
     let ks = knownKinds (kindsAt o s) in
     let w = writesIn (kindsAt o s) in
     let t7 = eqb (writesAt o s) w in
-    let t8 = inRange (settingsAt o s) in
+    let t8 = inRange (settingsIn o s) in
     let h6 = met (zerosRight o s && ks) badField (demand t7 wrongWrites (demand t8 outOfRange 0)) (omega arith) h in
     let h7 = met t7 wrongWrites (demand t8 outOfRange 0) (omega arith) (h6 .1) in
     let h8 = met t8 outOfRange 0 (omega arith) (h7 .1) in

@@ -5,15 +5,17 @@ use mathlib.Core.Bool.{Bool, true, false, _&&_, and-eq-true-iff}
 use Prim.Native.Nat.{ℕ, zero, suc, _+_, _*_, _≤_, _<_}
 use native.Mathlib.Nat.{add-assoc}
 use native.Mathlib.Omega.{arith}
-use lib.ListN.{length, getD, take, drop, length-drop}
-use lib.Seq.{take-add, take-all, length-take-le}
+use lib.ListN.{length, getD, take}
+use lib.Seq.{take-all}
 use lib.Dec.{eqb}
 use borrow.Author.Tests.{eqb-true}
-use Rattle.word.specs.Number.{numberAt, bytesOf}
-use Rattle.word.proofs.Laws.{Bytes, bytes-again, bytes-take, bytes-drop, part}
+use Rattle.word.proofs.Laws.{Bytes, part}
 use Rattle.word.specs.declared.Order.{Order}
 use Rattle.word.specs.declared.Order.the-variants.{High, Low}
-use Rattle.trace.specs.Layout.{markHigh, markLow, begins, pickMark, markOf, fileLength, editionAt, firstZeroAt, countAt, offsetAt, writesAt, lengthAt, lastZeroAt, settingsAt, pageAt, kindAt, zeroAt, pagesAt, kindsAt, writesIn, traceAt}
+use Rattle.search.specs.Search.{pick}
+use Rattle.settings.specs.Settings.{settingsBytes}
+use Rattle.settings.proofs.Places.{join, join-is, settings-join}
+use Rattle.trace.specs.Layout.{markHigh, markLow, begins, markOf, fileLength, editionAt, firstZeroAt, countAt, offsetAt, writesAt, lengthAt, lastZeroAt, settingsIn, pageAt, kindAt, zeroAt, pagesAt, kindsAt, writesIn, traceAt}
 use Rattle.trace.specs.Encode.{markBytes, headerBytes, recordBytes, recordsTo, encode}
 use Rattle.trace.specs.declared.Mark.the-variants.{Known, Unknown}
 use Rattle.trace.proofs.Lists.{length-upTo, upTo-at, zero-at}
@@ -40,12 +42,12 @@ begins-is s m e =
       eqb-true (getD s 3 0) (getD m 3 0) (b2 .1),
     )
 
-high-found : (a b : Bool) → pickMark a (Known High) (pickMark b (Known Low) Unknown) ≡ Known High → a ≡ true
+high-found : (a b : Bool) → pick a (Known High) (pick b (Known Low) Unknown) ≡ Known High → a ≡ true
 high-found true b h = refl
 high-found false true h = absurd (let z : _≡_ {A = ℕ} 0 1 = cc in omega arith)
 high-found false false h = absurd (let z : _≡_ {A = ℕ} 0 1 = cc in omega arith)
 
-low-found : (a b : Bool) → pickMark a (Known High) (pickMark b (Known Low) Unknown) ≡ Known Low → b ≡ true
+low-found : (a b : Bool) → pick a (Known High) (pick b (Known Low) Unknown) ≡ Known Low → b ≡ true
 low-found true b h = absurd (let z : _≡_ {A = ℕ} 0 1 = cc in omega arith)
 low-found false true h = refl
 low-found false false h = absurd (let z : _≡_ {A = ℕ} 0 1 = cc in omega arith)
@@ -56,38 +58,23 @@ mark-again High s h e = part 4 0 s (omega arith) ∙ begins-is s markHigh (high-
 mark-again Low s h e = part 4 0 s (omega arith) ∙ begins-is s markLow (low-found (begins s markHigh) (begins s markLow) e)
 
 module _ (o : Order) (s : List ℕ) (bs : Bytes s) where
-  -- the front, and the bytes of the number that stands behind it
-  join : (n w : ℕ) → n + w ≤ length s → take n s ++ bytesOf o w (numberAt o w n s) ≡ take (n + w) s
-  join n w h =
-      let l : w ≤ length (drop n s) = simp length-drop (omega arith) in
-      rw (bytes-again o w (take w (drop n s)) (length-take-le w (drop n s) l) (bytes-take w (drop n s) (bytes-drop n s bs)), ← take-add)
-
-  -- the same where the number is known to be v
-  join-is : (n w v : ℕ) → n + w ≤ length s → numberAt o w n s ≡ v → take n s ++ bytesOf o w v ≡ take (n + w) s
-  join-is n w v h e = rw (← e) (join n w h)
-
   header-again : (n w : ℕ) → 48 ≤ length s → take 4 s ≡ markBytes o → editionAt o s ≡ 1 → firstZeroAt o s ≡ 0 → countAt o s ≡ n
       → offsetAt o s ≡ 48 → writesAt o s ≡ w → lengthAt o s ≡ fileLength n → lastZeroAt o s ≡ 0
-      → headerBytes o (settingsAt o s) n w ≡ take 48 s
-  unfolding headerBytes settingsAt
+      → headerBytes o (settingsIn o s) n w ≡ take 48 s
+  unfolding headerBytes
   header-again n w h mark e4 e6 e8 e12 e16 e20 e44 =
+      let h44 : 44 ≤ length s = omega arith in
+      let set : take 24 s ++ settingsBytes o (settingsIn o s) ≡ take 44 s = settings-join o s bs 24 h44 in
       rw (
         ← mark,
-        join-is 4 2 1 (omega arith) e4,
-        join-is 6 2 0 (omega arith) e6,
-        join-is 8 4 n (omega arith) e8,
-        join-is 12 4 48 (omega arith) e12,
-        join-is 16 4 w (omega arith) e16,
-        join-is 20 4 (fileLength n) (omega arith) e20,
-        join 24 2 (omega arith),
-        join 26 2 (omega arith),
-        join 28 2 (omega arith),
-        join 30 2 (omega arith),
-        join 32 2 (omega arith),
-        join 34 2 (omega arith),
-        join 36 4 (omega arith),
-        join 40 4 (omega arith),
-        join-is 44 4 0 (omega arith) e44,
+        join-is o s bs 4 2 1 (omega arith) e4,
+        join-is o s bs 6 2 0 (omega arith) e6,
+        join-is o s bs 8 4 n (omega arith) e8,
+        join-is o s bs 12 4 48 (omega arith) e12,
+        join-is o s bs 16 4 w (omega arith) e16,
+        join-is o s bs 20 4 (fileLength n) (omega arith) e20,
+        set,
+        join-is o s bs 44 4 0 (omega arith) e44,
       )
 
   records-again : (pages kinds : List ℕ) (i : ℕ) → fileLength i ≤ length s
@@ -104,7 +91,7 @@ module _ (o : Order) (s : List ℕ) (bs : Bytes s) where
       let e : at + 6 + 2 ≡ 48 + 8 * suc i = omega arith in
       rw (p, k)
       (simp (← append-assoc)
-      (rw (ih, join at 4 (omega arith), join (at + 4) 2 (omega arith), add-assoc at 4 2, join-is (at + 6) 2 0 (omega arith) z)
+      (rw (ih, join o s bs at 4 (omega arith), join o s bs (at + 4) 2 (omega arith), add-assoc at 4 2, join-is o s bs (at + 6) 2 0 (omega arith) z)
       (ap (λ (m : ℕ). take m s) e)))
 
 -- encoding the trace of bytes that nothing refuses gives the bytes

@@ -7,6 +7,7 @@ use lib.ListN.{length, getD, List·getD-map}
 use Rattle.word.specs.Number.{bytesLow, bytesOf}
 use Rattle.word.specs.declared.Order.{Order}
 use Rattle.word.specs.declared.Order.the-variants.{High, Low}
+use Rattle.settings.specs.Settings.{Field, theFields, fieldBytes, settingsBytes}
 use Rattle.settings.specs.declared.Settings.{Settings}
 use Rattle.trace.specs.Layout.{Trace, writesIn}
 use Rattle.trace.specs.Encode.{markBytes, headerBytes, recordBytes, recordsTo, encode}
@@ -30,9 +31,19 @@ mark-remains : (o : Order) → map remainder (markBytes o) ≡ markBytes o
 mark-remains High = refl
 mark-remains Low = refl
 
+fields-remain : (o : Order) (fs : List Field) (t : Settings) → map remainder (fieldBytes o fs t) ≡ fieldBytes o fs t
+fields-remain o [] t = refl
+fields-remain o (f ∷ fs) t =
+    map-append remainder (bytesOf o (f .width) (f .number t)) (fieldBytes o fs t)
+    ∙ rw (number-remains o (f .width) (f .number t), fields-remain o fs t)
+
+settings-remain : (o : Order) (t : Settings) → map remainder (settingsBytes o t) ≡ settingsBytes o t
+unfolding settingsBytes
+settings-remain o t = fields-remain o theFields t
+
 header-remains : (o : Order) (t : Settings) (n writes : ℕ) → map remainder (headerBytes o t n writes) ≡ headerBytes o t n writes
 unfolding headerBytes
-header-remains o t n writes = simp (map-append, number-remains, mark-remains)
+header-remains o t n writes = simp (map-append, number-remains, mark-remains, settings-remain)
 
 record-remains : (o : Order) (page kind : ℕ) → map remainder (recordBytes o page kind) ≡ recordBytes o page kind
 unfolding recordBytes

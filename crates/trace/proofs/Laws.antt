@@ -10,8 +10,8 @@ use borrow.Author.Tests.{leb-true, eqb-true}
 use Rattle.word.specs.declared.Order.{Order}
 use Rattle.refusal.specs.Refusals.{demand, otherEdition, tooMany, wrongLength}
 use Rattle.refusal.proofs.Laws.{met}
-use Rattle.trace.specs.Layout.{Trace, edition, recordLimit, headerLength, fileLength, editionAt, countAt, offsetAt, lengthAt, pageAt, settingsAt, traceAt}
-use Rattle.trace.specs.Check.{layoutRefusal, lengthsRight, outcome, summaryOf, checked, numberOfAnswer, putInto}
+use Rattle.trace.specs.Layout.{Trace, edition, recordLimit, headerLength, fileLength, editionAt, countAt, offsetAt, lengthAt, pageAt, settingsIn, traceAt}
+use Rattle.trace.specs.Check.{layoutRefusal, lengthsRight, outcome, summaryOf, checked, numberOfAnswer}
 use Rattle.trace.specs.Check.Outcome.{Whole}
 use Rattle.trace.specs.declared.Summary.{Summary}
 use Rattle.trace.specs.declared.Checked.the-variants.{Refused, Accepted}
@@ -47,14 +47,10 @@ laid-out o s h =
 
 -- ---- outcomes
 
--- a refusal is the answer, and nothing is stored
+-- a refusal is the answer
 pub refused : (r : ℕ) (t : Trace) → (r ≡ 0 → ⊥) → Refused r ≡ checked (outcome r t)
 refused zero t h = absurd (h refl)
 refused (suc r) t h = refl
-
-pub unstored : (part : Trace → List ℕ) (r : ℕ) (t : Trace) (lent : List ℕ) → (r ≡ 0 → ⊥) → lent ≡ putInto part (outcome r t) lent
-unstored part zero t lent h = absurd (h refl)
-unstored part (suc r) t lent h = refl
 
 -- and back from the answer
 pub accepts : (r : ℕ) (t : Trace) (h : Summary) → checked (outcome r t) ≡ Accepted h → (r ≡ 0) × (h ≡ summaryOf t)
@@ -75,6 +71,6 @@ number-is zero t = refl
 number-is (suc r) t = refl
 
 -- the header that the checker tells is that of the trace
-pub told : (o : Order) (s : List ℕ) → Accepted (record { settings = settingsAt o s; order = o; count = countAt o s }) ≡ checked (outcome 0 (traceAt o s))
+pub told : (o : Order) (s : List ℕ) → Accepted (record { settings = settingsIn o s; order = o; count = countAt o s }) ≡ checked (outcome 0 (traceAt o s))
 unfolding traceAt
 told o s = rw (length-upTo (pageAt o s) (countAt o s))

@@ -1,7 +1,7 @@
 -- Lists made one by one: what stands in them, and what a turn of a loop adds.
 use mathlib.Core.Path.{_≡_, refl, sym, _∙_}
 use mathlib.Core.List.{List, [], _∷_, _++_}
-use mathlib.Core.Bool.{true, _&&_, and-true, and-assoc, and-eq-true-iff}
+use mathlib.Core.Bool.{Bool, true, false, _&&_, and-true, and-assoc, and-eq-true-iff}
 use mathlib.Core.Logic.{⊎-elim, _⊎_, inl, inr}
 use Prim.Native.Nat.{ℕ, zero, suc, _+_, _-_, _≤_, _<_}
 use native.Mathlib.Nat.{zero-add, eq-or-lt-of-le, eq-zero-or-pos}
@@ -12,6 +12,7 @@ use lib.Seq.{sets, getD-at, ext-getD}
 use lib.Dec.{eqb}
 use borrow.Author.Tests.{eqb-true, leb-true}
 use Rattle.word.proofs.Laws.{sets-append}
+use Rattle.search.specs.Search.{oneIf}
 use Rattle.trace.specs.Layout.{upTo, isWrite, writesIn, knownKind, knownKinds, allZero}
 
 -- ---- f 0, f 1, ..
@@ -75,19 +76,13 @@ all-zero f (suc n) h =
     zero-snoc (upTo f n) (f n)
     ∙ rw (all-zero f n (λ i l. h i (omega arith)), h n (omega arith))
 
-pub not-write : (k : ℕ) → 2 ≤ k → isWrite k ≡ 0
-not-write zero h = omega arith
-not-write (suc zero) h = omega arith
-not-write (suc (suc k)) h = refl
-
-pub write-le : (k : ℕ) → isWrite k ≤ 1
-write-le zero = omega arith
-write-le (suc zero) = omega arith
-write-le (suc (suc k)) = omega arith
+one-le : (b : Bool) → oneIf b ≤ 1
+one-le true = omega arith
+one-le false = omega arith
 
 pub writes-le : (l : List ℕ) → writesIn l ≤ length l
 writes-le [] = omega arith
-writes-le (k ∷ l) = omega (arith, writes-le l, write-le k)
+writes-le (k ∷ l) = omega (arith, writes-le l, one-le (eqb k 1))
 
 -- a known kind is at most 3, and so is the 0 behind the list's end
 pub known-le : (l : List ℕ) (i : ℕ) → knownKinds l ≡ true → getD l i 0 ≤ 3

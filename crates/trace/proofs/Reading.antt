@@ -10,13 +10,12 @@ use lib.Dec.{leb}
 use borrow.Author.Tests.{leb-true}
 use Rattle.word.proofs.Laws.{Bytes, sets-front}
 use Rattle.refusal.specs.Refusals.{demand, orElse, noRoom}
-use Rattle.refusal.proofs.Laws.{met, neither, or-first}
-use Rattle.trace.specs.Layout.{Trace}
+use Rattle.refusal.proofs.Laws.{met, neither, or-first, unstored}
 use Rattle.trace.specs.Check.{refusalOf, traceOf, checkOf, readRefusal, ReadInto, WritesAgain}
 use Rattle.trace.specs.declared.Summary.{Summary}
 use Rattle.trace.specs.declared.Checked.{Checked}
 use Rattle.trace.specs.declared.Checked.the-variants.{Refused, Accepted}
-use Rattle.trace.proofs.Laws.{refused, unstored, accepts}
+use Rattle.trace.proofs.Laws.{refused, accepts}
 use Rattle.trace.proofs.Accept.{accepted, refused-is, counts-are}
 use Rattle.trace.proofs.Whole.{proper, encode-trace}
 
@@ -47,12 +46,12 @@ read-refused s pages kinds r e =
     let first : orElse (refusalOf s) next ≡ r = rw (f .0) (sym (or-first r next (f .1))) in
     record {
       answers = rw first (refused r t (f .1));
-      pages-hold = rw first (unstored (λ (u : Trace). u .pages) r t pages (f .1));
-      kinds-hold = rw first (unstored (λ (u : Trace). u .kinds) r t kinds (f .1));
+      pages-hold = rw first (unstored r (t .pages) pages (f .1));
+      kinds-hold = rw first (unstored r (t .kinds) kinds (f .1));
     }
 
 -- a reader that refuses nothing has room for the records of a trace that nothing refuses
-read-grants : (s : List ℕ) (pages kinds : ℕ) → readRefusal s pages kinds ≡ 0
+pub read-grants : (s : List ℕ) (pages kinds : ℕ) → readRefusal s pages kinds ≡ 0
     → (refusalOf s ≡ 0) × (length (traceOf s .pages) ≤ pages) × (length (traceOf s .kinds) ≤ kinds)
 unfolding readRefusal
 read-grants s pages kinds z =

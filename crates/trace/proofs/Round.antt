@@ -1,6 +1,6 @@
 -- Reading what was encoded gives the trace back.
 use mathlib.Core.Path.{_≡_, refl, sym, ap, _∙_}
-use mathlib.Core.List.{List, _++_}
+use mathlib.Core.List.{List, _++_, append-assoc}
 use mathlib.Core.Logic.{⊎-elim, _⊎_}
 use Prim.Native.Nat.{ℕ, zero, suc, _+_, _*_, _≤_, _<_}
 use native.Mathlib.Nat.{add-zero, add-assoc, eq-or-lt-of-le}
@@ -13,15 +13,16 @@ use Rattle.word.specs.declared.Order.{Order}
 use Rattle.word.specs.declared.Order.the-variants.{High, Low}
 use Rattle.word.proofs.Laws.{number-back}
 use Rattle.settings.specs.declared.Settings.{Settings}
-use Rattle.settings.proofs.Laws.{ranges}
-use Rattle.trace.specs.Layout.{Trace, recordLimit, headerLength, fileLength, markOf, editionAt, firstZeroAt, countAt, offsetAt, writesAt, lengthAt, lastZeroAt, settingsAt, pageAt, kindAt, zeroAt, upTo, writesIn, traceAt}
-use Rattle.trace.specs.Encode.{headerBytes, recordBytes, recordsTo, encode, Proper}
+use Rattle.settings.specs.Settings.{settingsBytes}
+use Rattle.settings.proofs.Places.{settings-back}
+use Rattle.trace.specs.Layout.{Trace, recordLimit, headerLength, fileLength, markOf, editionAt, firstZeroAt, countAt, offsetAt, writesAt, lengthAt, lastZeroAt, settingsIn, pageAt, kindAt, zeroAt, upTo, writesIn, traceAt}
+use Rattle.trace.specs.Encode.{frontBytes, headerBytes, recordBytes, recordsTo, encode, Proper}
 use Rattle.trace.specs.Check.{layoutRefusal, contentRefusal, refusalIn, refusalOf, traceOf, decode}
 use Rattle.trace.specs.Check.Outcome.{Whole}
 use Rattle.trace.specs.declared.Mark.the-variants.{Known}
 use Rattle.trace.proofs.Lists.{upTo-is, all-zero, writes-le, known-le}
 use Rattle.trace.proofs.Accept.{trace-is}
-use Rattle.trace.proofs.Sizes.{length-header, length-records, length-encode}
+use Rattle.trace.proofs.Sizes.{length-front, length-header, length-records, length-encode}
 
 -- ---- a place in the front, and a place behind
 
@@ -53,28 +54,20 @@ unfolding recordBytes
 fields High page kind = (refl, refl, refl)
 fields Low page kind = (refl, refl, refl)
 
--- what stands at each place of a header, as bytes
-record FieldsOf (o : Order) (s : List ℕ) (t : Settings) (n w : ℕ) : Type 0 where
+-- what stands at the places of a header beside the settings, as bytes
+record FieldsOf (o : Order) (s : List ℕ) (n w : ℕ) : Type 0 where
   is-edition : editionAt o s ≡ numberOf o (bytesOf o 2 1)
   is-zero₁ : firstZeroAt o s ≡ numberOf o (bytesOf o 2 0)
   is-count : countAt o s ≡ numberOf o (bytesOf o 4 n)
   is-offset : offsetAt o s ≡ numberOf o (bytesOf o 4 48)
   is-writes : writesAt o s ≡ numberOf o (bytesOf o 4 w)
   is-long : lengthAt o s ≡ numberOf o (bytesOf o 4 (fileLength n))
-  is-rule : numberAt o 2 24 s ≡ numberOf o (bytesOf o 2 (t .rule))
-  is-frames : numberAt o 2 26 s ≡ numberOf o (bytesOf o 2 (t .frames))
-  is-batch : numberAt o 2 28 s ≡ numberOf o (bytesOf o 2 (t .batch))
-  is-cap : numberAt o 2 30 s ≡ numberOf o (bytesOf o 2 (t .cap))
-  is-sample : numberAt o 2 32 s ≡ numberOf o (bytesOf o 2 (t .sample))
-  is-weight : numberAt o 2 34 s ≡ numberOf o (bytesOf o 2 (t .weight))
-  is-epoch : numberAt o 4 36 s ≡ numberOf o (bytesOf o 4 (t .epoch))
-  is-seed : numberAt o 4 40 s ≡ numberOf o (bytesOf o 4 (t .seed))
   is-zero₂ : lastZeroAt o s ≡ numberOf o (bytesOf o 4 0)
 
-header-read : (o : Order) (t : Settings) (n w : ℕ) (rest : List ℕ) → FieldsOf o (headerBytes o t n w ++ rest) t n w
-unfolding headerBytes
-header-read High t n w rest = record { is-edition = refl; is-zero₁ = refl; is-count = refl; is-offset = refl; is-writes = refl; is-long = refl; is-rule = refl; is-frames = refl; is-batch = refl; is-cap = refl; is-sample = refl; is-weight = refl; is-epoch = refl; is-seed = refl; is-zero₂ = refl }
-header-read Low t n w rest = record { is-edition = refl; is-zero₁ = refl; is-count = refl; is-offset = refl; is-writes = refl; is-long = refl; is-rule = refl; is-frames = refl; is-batch = refl; is-cap = refl; is-sample = refl; is-weight = refl; is-epoch = refl; is-seed = refl; is-zero₂ = refl }
+header-read : (o : Order) (t : Settings) (n w : ℕ) (rest : List ℕ) → FieldsOf o (headerBytes o t n w ++ rest) n w
+unfolding headerBytes settingsBytes
+header-read High t n w rest = record { is-edition = refl; is-zero₁ = refl; is-count = refl; is-offset = refl; is-writes = refl; is-long = refl; is-zero₂ = refl }
+header-read Low t n w rest = record { is-edition = refl; is-zero₁ = refl; is-count = refl; is-offset = refl; is-writes = refl; is-long = refl; is-zero₂ = refl }
 
 mark-read : (o : Order) (t : Settings) (n w : ℕ) (rest : List ℕ) → markOf (headerBytes o t n w ++ rest) ≡ Known o
 unfolding headerBytes
@@ -83,7 +76,7 @@ mark-read Low t n w rest = refl
 
 module _ (t : Trace) (ok : Proper t) where
   -- what the encoding holds at the places of the header
-  head : FieldsOf (t .order) (encode t) (t .settings) (length (t .pages)) (writesIn (t .kinds))
+  head : FieldsOf (t .order) (encode t) (length (t .pages)) (writesIn (t .kinds))
   unfolding encode
   head = header-read (t .order) (t .settings) (length (t .pages)) (writesIn (t .kinds)) (recordsTo (t .order) (t .pages) (t .kinds) (length (t .pages)))
 
@@ -94,22 +87,16 @@ module _ (t : Trace) (ok : Proper t) where
   count : countAt (t .order) (encode t) ≡ length (t .pages)
   count = let few = ok .few in head .is-count ∙ number-back (t .order) 4 (length (t .pages)) (omega arith)
 
-  settings-read : settingsAt (t .order) (encode t) ≡ t .settings
-  unfolding settingsAt
+  settings-read : settingsIn (t .order) (encode t) ≡ t .settings
+  unfolding encode headerBytes
   settings-read =
       let o = t .order in
-      let s = t .settings in
-      let r = ranges s (ok .range) in
-      rw (
-        head .is-rule ∙ number-back o 2 (s .rule) (omega arith),
-        head .is-frames ∙ number-back o 2 (s .frames) (omega arith),
-        head .is-batch ∙ number-back o 2 (s .batch) (omega arith),
-        head .is-cap ∙ number-back o 2 (s .cap) (omega arith),
-        head .is-sample ∙ number-back o 2 (s .sample) (omega arith),
-        head .is-weight ∙ number-back o 2 (s .weight) (omega arith),
-        head .is-epoch ∙ number-back o 4 (s .epoch) (omega arith),
-        head .is-seed ∙ number-back o 4 (s .seed) (ok .seed),
-      )
+      let n = length (t .pages) in
+      let w = writesIn (t .kinds) in
+      let front = frontBytes o n w in
+      let rest = recordsTo o (t .pages) (t .kinds) n in
+      settings-back o (t .settings) 24 front (bytesOf o 4 0 ++ rest) (encode t) (ok .range) (ok .seed)
+      (append-assoc (front ++ settingsBytes o (t .settings)) (bytesOf o 4 0) rest) (length-front o n w)
 
   -- a field of record i of the whole
   record-field : (w k i : ℕ) → k + w ≤ 8 → i < length (t .pages)

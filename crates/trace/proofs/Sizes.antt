@@ -8,16 +8,20 @@ use Rattle.word.specs.declared.Order.{Order}
 use Rattle.word.specs.declared.Order.the-variants.{High, Low}
 use Rattle.word.proofs.Laws.{length-bytes}
 use Rattle.settings.specs.declared.Settings.{Settings}
+use Rattle.settings.proofs.Places.{length-settings}
 use Rattle.trace.specs.Layout.{Trace, fileLength, writesIn}
-use Rattle.trace.specs.Encode.{markBytes, headerBytes, recordBytes, recordsTo, encode}
+use Rattle.trace.specs.Encode.{markBytes, frontBytes, headerBytes, recordBytes, recordsTo, encode}
 
 pub length-mark : (o : Order) → length (markBytes o) ≡ 4
 length-mark High = refl
 length-mark Low = refl
 
+pub length-front : (o : Order) (n writes : ℕ) → length (frontBytes o n writes) ≡ 24
+length-front o n writes = simp (length-append, length-bytes, length-mark)
+
 pub length-header : (o : Order) (t : Settings) (n writes : ℕ) → length (headerBytes o t n writes) ≡ 48
 unfolding headerBytes
-length-header o t n writes = simp (length-append, length-bytes, length-mark)
+length-header o t n writes = simp (length-append, length-bytes, length-mark, length-settings)
 
 length-record : (o : Order) (page kind : ℕ) → length (recordBytes o page kind) ≡ 8
 unfolding recordBytes

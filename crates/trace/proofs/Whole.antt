@@ -6,7 +6,8 @@ use native.Mathlib.Omega.{arith}
 use lib.ListN.{length}
 use Rattle.word.proofs.Laws.{Bytes, number-at-lt}
 use Rattle.word.specs.declared.Order.{Order}
-use Rattle.trace.specs.Layout.{Trace, fileLength, countAt, settingsAt, pageAt, kindAt, traceAt}
+use Rattle.settings.specs.Settings.{settingsAt}
+use Rattle.trace.specs.Layout.{Trace, fileLength, countAt, pageAt, kindAt, traceAt}
 use Rattle.trace.specs.Encode.{encode, Proper}
 use Rattle.trace.specs.Check.{refusalOf, traceOf, decode}
 use Rattle.trace.specs.Check.Outcome.{Whole}

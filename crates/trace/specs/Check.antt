@@ -4,13 +4,12 @@ use mathlib.Core.List.{List}
 use mathlib.Core.Bool.{Bool, _&&_}
 use mathlib.Core.Path.{_≡_}
 use lib.ListN.{length, take}
-use lib.Seq.{sets}
 use lib.Dec.{eqb, leb}
 use Rattle.word.specs.declared.Order.{Order}
 use Rattle.word.specs.declared.Order.the-variants.{High}
-use Rattle.refusal.specs.Refusals.{demand, orElse, tooShort, unknownMark, otherEdition, tooMany, wrongLength, badField, wrongWrites, outOfRange, noRoom}
+use Rattle.refusal.specs.Refusals.{demand, orElse, stored, tooShort, unknownMark, otherEdition, tooMany, wrongLength, badField, wrongWrites, outOfRange, noRoom}
 use Rattle.settings.specs.Settings.{inRange}
-use Rattle.trace.specs.Layout.{Trace, traceFrom, edition, recordLimit, headerLength, fileLength, markOf, editionAt, firstZeroAt, countAt, offsetAt, writesAt, lengthAt, settingsAt, lastZeroAt, kindsAt, zerosAt, knownKinds, writesIn, allZero, traceAt}
+use Rattle.trace.specs.Layout.{Trace, traceFrom, edition, recordLimit, headerLength, fileLength, markOf, editionAt, firstZeroAt, countAt, offsetAt, writesAt, lengthAt, settingsIn, lastZeroAt, kindsAt, zerosAt, knownKinds, writesIn, allZero, traceAt}
 use Rattle.trace.specs.Encode.{encode, Proper}
 use Rattle.trace.specs.declared.Mark.{Mark}
 use Rattle.trace.specs.declared.Mark.the-variants.{Known, Unknown}
@@ -39,7 +38,7 @@ unfoldable pub contentRefusal : Order → List ℕ → ℕ
 contentRefusal o s =
     demand (zerosRight o s && knownKinds (kindsAt o s)) badField
     (demand (eqb (writesAt o s) (writesIn (kindsAt o s))) wrongWrites
-    (demand (inRange (settingsAt o s)) outOfRange 0))
+    (demand (inRange (settingsIn o s)) outOfRange 0))
 
 -- refusals 3 to 8 of bytes in a known order
 unfoldable pub refusalIn : Order → List ℕ → ℕ
@@ -114,16 +113,11 @@ readRefusal s pages kinds =
 abbrev pub readOf : List ℕ → ℕ → ℕ → Outcome
 readOf s pages kinds = outcome (readRefusal s pages kinds) (traceOf s)
 
--- lent memory afterwards: a part of the trace at the front of what was there; on a refusal, what was there
-abbrev pub putInto : (Trace → List ℕ) → Outcome → List ℕ → List ℕ
-putInto part (Whole t) lent = sets lent 0 (part t)
-putInto part (Faulty r) lent = lent
-
 -- the reader on lent lists: its answer, and every place of both lists afterwards
 pub record ReadInto (s pages kinds : List ℕ) (answer : Checked) (pages′ kinds′ : List ℕ) : Type 0 where
   pub answers : answer ≡ checked (readOf s (length pages) (length kinds))
-  pub pages-hold : pages′ ≡ putInto (λ (t : Trace). t .pages) (readOf s (length pages) (length kinds)) pages
-  pub kinds-hold : kinds′ ≡ putInto (λ (t : Trace). t .kinds) (readOf s (length pages) (length kinds)) kinds
+  pub pages-hold : pages′ ≡ stored (readRefusal s (length pages) (length kinds)) (traceOf s .pages) pages
+  pub kinds-hold : kinds′ ≡ stored (readRefusal s (length pages) (length kinds)) (traceOf s .kinds) kinds
 
 -- reading, then writing: where the reader accepts, what it gives has the encoding that was read
 abbrev pub WritesAgain : List ℕ → Checked → List ℕ → List ℕ → Type 0

@@ -7,7 +7,7 @@ use lib.ListN.{length, getD}
 use Rattle.word.specs.Number.{bytesOf}
 use Rattle.word.specs.declared.Order.{Order}
 use Rattle.word.specs.declared.Order.the-variants.{High, Low}
-use Rattle.settings.specs.Settings.{inRange}
+use Rattle.settings.specs.Settings.{inRange, settingsBytes}
 use Rattle.settings.specs.declared.Settings.{Settings}
 use Rattle.trace.specs.Layout.{Trace, traceFrom, edition, recordLimit, headerLength, fileLength, markHigh, markLow, knownKinds, writesIn}
 
@@ -16,9 +16,9 @@ abbrev pub markBytes : Order → List ℕ
 markBytes High = markHigh
 markBytes Low = markLow
 
--- the header of n records of which some are writes, field by field
-unfoldable pub headerBytes : Order → Settings → ℕ → ℕ → List ℕ
-headerBytes o t n writes =
+-- before the settings: mark, edition, zero, record count, record offset, number of write records, file length
+abbrev pub frontBytes : Order → ℕ → ℕ → List ℕ
+frontBytes o n writes =
     markBytes o
     ++ bytesOf o 2 edition
     ++ bytesOf o 2 0
@@ -26,15 +26,10 @@ headerBytes o t n writes =
     ++ bytesOf o 4 headerLength
     ++ bytesOf o 4 writes
     ++ bytesOf o 4 (fileLength n)
-    ++ bytesOf o 2 (t .rule)
-    ++ bytesOf o 2 (t .frames)
-    ++ bytesOf o 2 (t .batch)
-    ++ bytesOf o 2 (t .cap)
-    ++ bytesOf o 2 (t .sample)
-    ++ bytesOf o 2 (t .weight)
-    ++ bytesOf o 4 (t .epoch)
-    ++ bytesOf o 4 (t .seed)
-    ++ bytesOf o 4 0
+
+-- the header of n records of which some are writes; it ends in a zero
+unfoldable pub headerBytes : Order → Settings → ℕ → ℕ → List ℕ
+headerBytes o t n writes = frontBytes o n writes ++ settingsBytes o t ++ bytesOf o 4 0
 
 -- a record: page, kind, zero
 unfoldable pub recordBytes : Order → ℕ → ℕ → List ℕ

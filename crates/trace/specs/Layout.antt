@@ -1,12 +1,14 @@
 -- Trace layout, edition 1: a header of counts and offsets, 48 bytes, then records of 8 bytes.
 use Prim.Native.Nat.{ℕ, zero, suc, _+_, _*_}
 use mathlib.Core.List.{List, [], _∷_, _++_}
-use mathlib.Core.Bool.{Bool, true, false, _&&_}
+use mathlib.Core.Bool.{Bool, true, _&&_}
 use lib.ListN.{getD}
 use lib.Dec.{eqb, leb}
 use Rattle.word.specs.Number.{numberAt}
 use Rattle.word.specs.declared.Order.{Order}
 use Rattle.word.specs.declared.Order.the-variants.{High, Low}
+use Rattle.search.specs.Search.{pick, oneIf}
+use Rattle.settings.specs.Settings.{settingsAt}
 use Rattle.settings.specs.declared.Settings.{Settings}
 use Rattle.trace.specs.declared.Mark.{Mark}
 use Rattle.trace.specs.declared.Mark.the-variants.{Known, Unknown}
@@ -24,9 +26,13 @@ recordLimit = 8000
 abbrev pub headerLength : ℕ
 headerLength = 48
 
+-- a record's length
+abbrev pub recordLength : ℕ
+recordLength = 8
+
 -- the length of a file of n records
 abbrev pub fileLength : ℕ → ℕ
-fileLength n = headerLength + 8 * n
+fileLength n = headerLength + recordLength * n
 
 -- the four bytes 01 02 03 04 for high byte first
 abbrev pub markHigh : List ℕ
@@ -40,14 +46,9 @@ markLow = 4 ∷ 3 ∷ 2 ∷ 1 ∷ []
 abbrev pub begins : List ℕ → List ℕ → Bool
 begins s m = eqb (getD s 0 0) (getD m 0 0) && (eqb (getD s 1 0) (getD m 1 0) && (eqb (getD s 2 0) (getD m 2 0) && eqb (getD s 3 0) (getD m 3 0)))
 
--- the mark where a test holds, else another
-abbrev pub pickMark : Bool → Mark → Mark → Mark
-pickMark true a b = a
-pickMark false a b = b
-
 -- at 0, 4 bytes: the mark
 abbrev pub markOf : List ℕ → Mark
-markOf s = pickMark (begins s markHigh) (Known High) (pickMark (begins s markLow) (Known Low) Unknown)
+markOf s = pick (begins s markHigh) (Known High) (pick (begins s markLow) (Known Low) Unknown)
 
 -- at 4, 2 bytes: edition
 abbrev pub editionAt : Order → List ℕ → ℕ
@@ -74,17 +75,8 @@ abbrev pub lengthAt : Order → List ℕ → ℕ
 lengthAt o s = numberAt o 4 20 s
 
 -- from 24 to 43: the settings
-unfoldable pub settingsAt : Order → List ℕ → Settings
-settingsAt o s = record {
-  rule = numberAt o 2 24 s;
-  frames = numberAt o 2 26 s;
-  batch = numberAt o 2 28 s;
-  cap = numberAt o 2 30 s;
-  sample = numberAt o 2 32 s;
-  weight = numberAt o 2 34 s;
-  epoch = numberAt o 4 36 s;
-  seed = numberAt o 4 40 s;
-}
+abbrev pub settingsIn : Order → List ℕ → Settings
+settingsIn o s = settingsAt o 24 s
 
 -- at 44, 4 bytes: zero
 abbrev pub lastZeroAt : Order → List ℕ → ℕ
@@ -108,9 +100,7 @@ knownKind k = leb k 3
 
 -- 1 for a write, else 0
 abbrev pub isWrite : ℕ → ℕ
-isWrite zero = 0
-isWrite (suc zero) = 1
-isWrite (suc (suc k)) = 0
+isWrite k = oneIf (eqb k 1)
 
 -- no kind of a list is bad
 abbrev pub knownKinds : List ℕ → Bool
@@ -157,7 +147,7 @@ traceFrom settings order pages kinds = record { settings = settings; order = ord
 
 -- the trace that bytes in an order hold
 unfoldable pub traceAt : Order → List ℕ → Trace
-traceAt o s = traceFrom (settingsAt o s) o (pagesAt o s) (kindsAt o s)
+traceAt o s = traceFrom (settingsIn o s) o (pagesAt o s) (kindsAt o s)
 
 -- record i of a trace
 abbrev pub recordIn : Trace → ℕ → Record

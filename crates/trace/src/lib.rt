@@ -3,7 +3,8 @@ ghost use mathlib.Core.Path.{_≡_};
 ghost use Prim.Native.Nat.{_≤_, _<_};
 ghost use lib.ListN.{length};
 ghost use lib.Seq.{sets};
-ghost use Rattle.trace.specs.Layout.{recordLimit, fileLength, begins, pickMark, markOf, settingsAt, countAt, kindAt, zeroAt, isWrite, knownKinds, writesIn, allZero, upTo, traceAt, recordIn};
+ghost use Rattle.search.specs.Search.{pick};
+ghost use Rattle.trace.specs.Layout.{recordLimit, headerLength, fileLength, begins, markOf, countAt, kindAt, zeroAt, isWrite, knownKinds, writesIn, allZero, upTo, traceAt, recordIn};
 ghost use Rattle.trace.specs.Check.{layoutRefusal, contentRefusal, refusalIn, checked, outcome, checkOf, Promises, traceOf, ReadInto, WritesAgain};
 use refusal::demanded;
 use settings::Settings;
@@ -43,6 +44,16 @@ pub const EDITION: u16 = 1;
 
 pub const RECORD_LIMIT: usize = 8000;
 
+pub const HEADER_LENGTH: usize = 48;
+
+pub const RECORD_LENGTH: usize = 8;
+
+// Where the settings stand in a header.
+pub const SETTINGS_PLACE: usize = 24;
+
+// The bytes of the longest trace.
+pub const BYTE_LIMIT: usize = HEADER_LENGTH + RECORD_LENGTH * RECORD_LIMIT;
+
 // Whether s begins with the four bytes of m.
 fn begins_with(s: &[u8], m: &[u8; 4]) -> bool
     requires { ⌜ 4 ≤ length (now s) ⌝ }
@@ -52,7 +63,7 @@ fn begins_with(s: &[u8], m: &[u8; 4]) -> bool
 }
 
 fn mark_found(high: bool, low: bool) -> Mark
-    ensures { λ r. ⌜ r ≡ pickMark high (Mark.Known Order.High) (pickMark low (Mark.Known Order.Low) Mark.Unknown) ⌝ }
+    ensures { λ r. ⌜ r ≡ pick high (Mark.Known Order.High) (pick low (Mark.Known Order.Low) Mark.Unknown) ⌝ }
 {
     if high {
         return Mark::Known(Order::High);
@@ -73,33 +84,18 @@ fn mark_of(s: &[u8]) -> Mark
     )
 }
 
-fn settings_at(s: &[u8], order: Order) -> Settings
-    requires { ⌜ 48 ≤ length (now s) ⌝ }
-    ensures { λ r. ⌜ r ≡ settingsAt order (now (s .entry)) ⌝ }
-{
-    Settings {
-        rule: word::get16(s, 24, order),
-        frames: word::get16(s, 26, order),
-        batch: word::get16(s, 28, order),
-        cap: word::get16(s, 30, order),
-        sample: word::get16(s, 32, order),
-        weight: word::get16(s, 34, order),
-        epoch: word::get32(s, 36, order),
-        seed: word::get32(s, 40, order),
-    }
-}
-
 // Refusals 3 to 5.
 fn layout_refusal(s: &[u8], order: Order) -> u32
-    requires { ⌜ 48 ≤ length (now s) ⌝ }
+    requires { ⌜ headerLength ≤ length (now s) ⌝ }
     ensures { λ r. ⌜ r ≡ layoutRefusal order (now (s .entry)) ⌝ }
 {
     let edition = word::get16(s, 4, order);
     let n = word::get32(s, 8, order) as usize;
     let offset = word::get32(s, 12, order);
     let long = word::get32(s, 20, order);
-    let size = 48 + 8 * n;
-    let lengths = (offset == 48) & ((long as usize == size) & (s.len() == size));
+    let size = HEADER_LENGTH + RECORD_LENGTH * n;
+    let lengths = (offset as usize == HEADER_LENGTH)
+        & ((long as usize == size) & (s.len() == size));
     let lengths_right = demanded(lengths, refusal::WRONG_LENGTH, 0);
     let few = demanded(n <= RECORD_LIMIT, refusal::TOO_MANY, lengths_right);
     demanded(edition == EDITION, refusal::OTHER_EDITION, few)
@@ -109,11 +105,7 @@ fn layout_refusal(s: &[u8], order: Order) -> u32
 pub fn count_write(kind: u16) -> u32
     ensures { λ r. ⌜ (r ≡ isWrite kind) × (r ≤ 1) ⌝ }
 {
-    match kind {
-        0 => 0,
-        1 => 1,
-        2..=65535 => 0,
-    }
+    search::one_if(kind == 1)
 }
 
 // One pass over the first n records.
@@ -126,7 +118,7 @@ fn survey_of(s: &[u8], order: Order, n: usize) -> Survey
     let mut writes: u32 = 0;
     let mut i: usize = 0;
     while i < n {
-        let at = 48 + 8 * i;
+        let at = HEADER_LENGTH + RECORD_LENGTH * i;
         let kind = word::get16(s, at + 4, order);
         known = known & (kind <= 3);
         zeros = zeros & (word::get16(s, at + 6, order) == 0);
@@ -152,7 +144,7 @@ fn content_refusal(s: &[u8], order: Order) -> u32
     let found = survey_of(s, order, n as usize);
     let zeros = first_zero & (last_zero & found.zeros);
     let ranges = demanded(
-        settings::in_range(settings_at(s, order)),
+        settings::in_range(settings::read(s, SETTINGS_PLACE, order)),
         refusal::OUT_OF_RANGE,
         0,
     );
@@ -162,7 +154,7 @@ fn content_refusal(s: &[u8], order: Order) -> u32
 
 // Refusals 3 to 8, or 0.
 fn refusal_in(s: &[u8], order: Order) -> u32
-    requires { ⌜ 48 ≤ length (now s) ⌝ }
+    requires { ⌜ headerLength ≤ length (now s) ⌝ }
     ensures { λ r. ⌜ r ≡ refusalIn order (now (s .entry)) ⌝ }
 {
     let r = layout_refusal(s, order);
@@ -170,12 +162,12 @@ fn refusal_in(s: &[u8], order: Order) -> u32
 }
 
 fn checked_in(s: &[u8], order: Order) -> Checked
-    requires { ⌜ 48 ≤ length (now s) ⌝ }
+    requires { ⌜ headerLength ≤ length (now s) ⌝ }
     ensures { λ r. ⌜ r ≡ checked (outcome (refusalIn order (now (s .entry))) (traceAt order (now (s .entry)))) ⌝ }
 {
     let r = refusal_in(s, order);
     if r == 0 {
-        let t = settings_at(s, order);
+        let t = settings::read(s, SETTINGS_PLACE, order);
         Checked::Accepted(Summary {
             settings: t,
             order: order,
@@ -191,7 +183,7 @@ pub fn check(bytes: &[u8]) -> Checked
     ensures { λ r. ⌜ r ≡ checkOf (now (bytes .entry)) ⌝ }
     ensures { λ r. ⌜ Promises (now (bytes .entry)) r ⌝ }
 {
-    if bytes.len() < 48 {
+    if bytes.len() < HEADER_LENGTH {
         return Checked::Refused(refusal::TOO_SHORT);
     }
     let m = mark_of(bytes);
@@ -207,7 +199,7 @@ pub fn record_at(bytes: &[u8], summary: Summary, i: usize) -> Record
     ensures { λ r. ⌜ r ≡ recordIn (traceOf (now (bytes .entry))) i ⌝ }
 {
     let order = summary.order;
-    let at = 48 + 8 * i;
+    let at = HEADER_LENGTH + RECORD_LENGTH * i;
     Record {
         page: word::get32(bytes, at, order),
         kind: word::get16(bytes, at + 4, order),

@@ -17,7 +17,7 @@ fn say_settings(s: Settings) {
     say_number(s.cap as u64);
     say_number(s.sample as u64);
     say_number(s.weight as u64);
-    say_number(s.epoch as u64);
+    say_number(s.span as u64);
     say_number(s.seed as u64);
 }
 
@@ -152,21 +152,6 @@ fn take_kinds(body: &[u8], at: usize, n: usize, kinds: &mut [u16])
     }
 }
 
-fn take_settings(body: &[u8]) -> Settings
-    requires { ⌜ 32 ≤ length (now body) ⌝ }
-{
-    Settings {
-        rule: word::get16(body, 0, Order::High),
-        frames: word::get16(body, 2, Order::High),
-        batch: word::get16(body, 4, Order::High),
-        cap: word::get16(body, 6, Order::High),
-        sample: word::get16(body, 8, Order::High),
-        weight: word::get16(body, 10, Order::High),
-        epoch: word::get32(body, 12, Order::High),
-        seed: word::get32(body, 16, Order::High),
-    }
-}
-
 fn order_of(number: u16) -> Order {
     if number == 0 { Order::High } else { Order::Low }
 }
@@ -175,7 +160,7 @@ fn order_of(number: u16) -> Order {
 fn write_lists(body: &[u8], pages: &[u32], kinds: &[u16], out: &mut [u8]) -> u32
     requires { ⌜ 32 ≤ length (now body) ⌝ }
 {
-    let settings = take_settings(body);
+    let settings = settings::read(body, 0, Order::High);
     let order = order_of(word::get16(body, 20, Order::High));
     scribe::write(settings, order, pages, kinds, out)
 }

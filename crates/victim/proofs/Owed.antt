@@ -12,7 +12,7 @@ use Rattle.pool.specs.declared.Pool.{Pool}
 use Rattle.pool.specs.Pool.{frameAt, emptyFrame, withCount, withPage, withFrames}
 use Rattle.pool.proofs.Sound.{Sound}
 use Rattle.pool.proofs.Quiet.{Alike, Quiet}
-use Rattle.victim.specs.Choice.{Choice, unpinned, leftBy}
+use Rattle.victim.specs.Choice.{Choice, Rule, unpinned, leftBy}
 
 -- every frame below f is pinned
 abbrev pub AllPinned : Pool → Type 0
@@ -58,16 +58,20 @@ lowered-more fr g h a b =
       pinned = λ e. b .pinned (ap (λ (z : Frame). eqb (z .pins) 0) (a .pinned e) ∙ e) ∙ a .pinned e;
     }
 
--- What each rule owes, one list for all.
-pub record Owes (choose : Pool → Choice) : Type 0 where
-  pub unpinned : (p : Pool) (v : ℕ) → Sound p → choose p .found ≡ At v → (v < p .settings .frames) × (unpinned (p .frames) v ≡ true)
-  pub none : (p : Pool) → (choose p .found ≡ Nothing → AllPinned p) × (AllPinned p → choose p .found ≡ Nothing)
-  pub still : (p : Pool) → choose p .found ≡ Nothing → leftBy p (choose p) ≡ p
-  pub lowers : (p : Pool) (i : ℕ) → Lowered (frameAt (p .frames) i) (frameAt (choose p .frames) i)
-  pub long : (p : Pool) → length (choose p .frames) ≡ length (p .frames)
-  pub quiet : (p : Pool) → Sound p → Quiet p (leftBy p (choose p))
-  pub sound : (p : Pool) → Sound p → Sound (leftBy p (choose p))
-  pub pages : (new : Bool → ℕ → ℕ) → EmptyStays new → (p : Pool) → choose (repagedPool new p) ≡ repagedChoice new (choose p)
+-- it finds none exactly where every frame below f is pinned
+abbrev pub Serves : (Pool → Choice) → Type 0
+Serves choose = (p : Pool) → (choose p .found ≡ Nothing → AllPinned p) × (AllPinned p → choose p .found ≡ Nothing)
+
+-- What each rule owes beside that, one list for all; no rule too.
+pub record Owes (rule : Rule) : Type 0 where
+  pub unpinned : (p : Pool) (v : ℕ) → Sound p → rule .choice p .found ≡ At v → (v < p .settings .frames) × (unpinned (p .frames) v ≡ true)
+  pub still : (p : Pool) → rule .choice p .found ≡ Nothing → leftBy p (rule .choice p) ≡ p
+  pub lowers : (p : Pool) (i : ℕ) → Lowered (frameAt (p .frames) i) (frameAt (rule .choice p .frames) i)
+  pub long : (p : Pool) → length (rule .choice p .frames) ≡ length (p .frames)
+  pub quiet : (p : Pool) → Sound p → Quiet p (leftBy p (rule .choice p))
+  pub sound : (p : Pool) → Sound p → Sound (leftBy p (rule .choice p))
+  pub pages : (new : Bool → ℕ → ℕ) → EmptyStays new → (p : Pool) → rule .choice (repagedPool new p) ≡ repagedChoice new (rule .choice p)
+  pub sorts : (new : Bool → ℕ → ℕ) → EmptyStays new → (p : Pool) (i j : ℕ) → rule .order (repagedPool new p) i j ≡ rule .order p i j
 
 -- a choice that only lowers counts, its hand below f, is a quiet change of a sound pool
 module _ (p : Pool) (sound : Sound p) (c : Choice) (on : c .hand < p .settings .frames) (lowers : (i : ℕ) → Lowered (frameAt (p .frames) i) (frameAt (c .frames) i)) where

@@ -1,7 +1,7 @@
 -- Generalised clock.
-use Prim.Native.Nat.{ℕ, zero, suc, _+_, _-_, _*_}
+use Prim.Native.Nat.{ℕ, zero, suc, _+_, _-_, _*_, _%_}
 use mathlib.Core.Bool.{Bool, true, false, _&&_}
-use mathlib.Core.List.{List}
+use mathlib.Core.List.{List, [], _∷_}
 use lib.ListN.{set}
 use lib.Dec.{eqb, ltb}
 use Rattle.search.specs.declared.Found.{Found}
@@ -10,7 +10,7 @@ use Rattle.search.specs.Search.{pick, onFound, never, leastBelow}
 use Rattle.pool.specs.declared.Frame.{Frame}
 use Rattle.pool.specs.declared.Pool.{Pool}
 use Rattle.pool.specs.Pool.{frameAt, withCount}
-use Rattle.victim.specs.Choice.{Choice, unpinned, unmoved}
+use Rattle.victim.specs.Choice.{Choice, Rule, unpinned, unmoved}
 
 -- upward, from f − 1 back to 0
 abbrev pub nextHand : ℕ → ℕ → ℕ
@@ -65,3 +65,22 @@ someUnpinned p = onFound (anyUnpinned (p .frames) (p .settings .frames)) (λ i. 
 -- the sweep's victim; none, and nothing changed, where every frame below f is pinned
 unfoldable pub clockChoice : Pool → Choice
 clockChoice p = pick (someUnpinned p) (sweptChoice p) (unmoved p Nothing)
+
+-- distance upward from the hand, of f frames
+abbrev pub distanceFrom : ℕ → ℕ → ℕ → ℕ
+distanceFrom hand f i = (i + f - hand) % f
+
+-- from the hand after the sweep
+abbrev pub distance : Pool → ℕ → ℕ
+distance p i = distanceFrom (p .hand) (p .settings .frames) i
+
+-- by count after the sweep, then distance
+abbrev pub sooner : Pool → ℕ → ℕ → Bool
+sooner p i j =
+    pick (eqb (frameAt (p .frames) i .count) (frameAt (p .frames) j .count))
+    (ltb (distance p i) (distance p j))
+    (ltb (frameAt (p .frames) i .count) (frameAt (p .frames) j .count))
+
+-- its batches go by that
+abbrev pub clockRule : Rule
+clockRule = record { choice = clockChoice; order = sooner; name = 99 ∷ 108 ∷ 111 ∷ 99 ∷ 107 ∷ [] }

@@ -1,17 +1,29 @@
 -- The rules by number.
 use Prim.Native.Nat.{ℕ, zero, suc}
+use mathlib.Core.Bool.{Bool, false}
+use mathlib.Core.List.{[]}
+use Rattle.search.specs.declared.Found.the-variants.{Nothing}
 use Rattle.pool.specs.declared.Pool.{Pool}
-use Rattle.victim.specs.Choice.{Choice}
-use Rattle.victim.specs.Lru.{lruChoice}
-use Rattle.victim.specs.Clock.{clockChoice}
-use Rattle.victim.specs.Watt.{wattChoice}
+use Rattle.victim.specs.Choice.{Choice, Rule, unmoved}
+use Rattle.victim.specs.Lru.{lruRule}
+use Rattle.victim.specs.Clock.{clockRule}
+use Rattle.victim.specs.Watt.{wattRule}
 
--- 0 LRU, 1 generalised clock, 2 WATT, and so any other number, which no sound pool has
-abbrev pub byRule {ℓ} : {A : Type ℓ} → ℕ → A → A → A → A
-byRule zero lru clock watt = lru
-byRule (suc zero) lru clock watt = clock
-byRule (suc (suc r)) lru clock watt = watt
+-- no rule: it chooses nothing, orders nothing, and has no name
+abbrev pub noRule : Rule
+noRule = record { choice = λ p. unmoved p Nothing; order = λ p i j. false; name = [] }
+
+-- 0 LRU, 1 generalised clock, 2 WATT; any other number, which no sound pool has, is no rule
+abbrev pub byRule : ℕ → Rule
+byRule zero = lruRule
+byRule (suc zero) = clockRule
+byRule (suc (suc zero)) = wattRule
+byRule (suc (suc (suc r))) = noRule
 
 -- what the pool's own rule chooses
 unfoldable pub choiceOf : Pool → Choice
-choiceOf p = byRule (p .settings .rule) (lruChoice p) (clockChoice p) (wattChoice p)
+choiceOf p = byRule (p .settings .rule) .choice p
+
+-- the order of its batches
+unfoldable pub batchOrder : Pool → ℕ → ℕ → Bool
+batchOrder p = byRule (p .settings .rule) .order p

@@ -10,7 +10,7 @@ use Rattle.worth.specs.Value.{lessFraction, worthOf, valueOf}
 use Rattle.pool.specs.declared.Frame.{Frame}
 use Rattle.pool.specs.declared.Pool.{Pool}
 use Rattle.pool.specs.Pool.{accessRoom, writeRoom, frameAt, nowOf}
-use Rattle.victim.specs.Choice.{Choice, unpinned}
+use Rattle.victim.specs.Choice.{Choice, Rule, unpinned}
 
 -- what each draw adds
 abbrev pub samplerStep : ℕ
@@ -63,3 +63,7 @@ module _ (p : Pool) where
     sampler = onFound wattVictim (λ _. samplerAfter (p .sampler) (p .settings .sample)) (p .sampler);
     frames = p .frames;
   }
+
+-- its batches go by value over all frames; on a tie the search takes the lower frame number
+abbrev pub wattRule : Rule
+wattRule = record { choice = wattChoice; order = lessValue; name = 119 ∷ 97 ∷ 116 ∷ 116 ∷ [] }

@@ -1,4 +1,3 @@
-pub mod Records
 pub mod Replacement
 pub mod Clock
 pub mod Watt

@@ -8,8 +8,8 @@ use lib.ListN.{length, getD}
 use lib.Seq.{sets}
 use borrow.Author.Tests.{le-leb}
 use Rattle.search.specs.Search.{everyBelow, countBelow}
-use Rattle.settings.specs.Settings.{inRange, sameSettings}
-use Rattle.trace.specs.Layout.{Trace, settingsAt, traceAt}
+use Rattle.settings.specs.Settings.{inRange, sameSettings, settingsBytes, settingsAt}
+use Rattle.trace.specs.Layout.{Trace, traceAt}
 use Rattle.trace.specs.Encode.{headerBytes, recordBytes, encode}
 use Rattle.trace.specs.Check.{layoutRefusal, contentRefusal, refusalIn, refusalOf, traceOf}
 use Rattle.pool.specs.declared.Pool.{Pool}
@@ -17,14 +17,15 @@ use Rattle.pool.specs.Pool.{freshPool, lastEpochOf}
 use Rattle.pool.specs.Sound.{soundLog, soundPool}
 use Rattle.tally.specs.declared.Row.{Row}
 use Rattle.tally.specs.Rows.{row, hit}
-use Rattle.tally.specs.Tally.{zeroTally, tallyWithin}
+use Rattle.tally.specs.Tally.{numbersOf, zeroTally, tallyWithin}
 use Rattle.effect.specs.Record.{dirtyIn}
 use Rattle.replay.specs.declared.Ended.{Ended}
 use Rattle.replay.specs.Replay.{replayOf}
 use Rattle.replay.specs.Calls.{mayBegin, countsRefusal, replayRefusal, endedOf, ReplayInto}
-use Rattle.worked.proofs.Records.{lru, traced, replayed}
+use Rattle.worked.specs.Records.{lru, traced, replayed}
 use Rattle.worked.proofs.Replacement.{printed, printedRows, printed-rows, printed-tally, printed-k}
-use Rattle.worked.proofs.Settled.{rowIn, returns-refusal, ran, each-row}
+use Rattle.worked.specs.Rows.{rowIn}
+use Rattle.worked.proofs.Settled.{returns-refusal, ran, each-row}
 
 -- a fresh pool of LRU, f 2, batch 1
 abbrev pub fresh : Pool
@@ -35,11 +36,11 @@ abbrev pub bytes : List ℕ
 bytes = encode (traced (lru 2 1) printed)
 
 bytes-trace : traceOf bytes ≡ traced (lru 2 1) printed
-unfolding traceOf traceAt settingsAt encode headerBytes recordBytes
+unfolding traceOf traceAt settingsAt encode headerBytes settingsBytes recordBytes
 bytes-trace = refl
 
 bytes-accepted : refusalOf bytes ≡ 0
-unfolding refusalOf refusalIn layoutRefusal contentRefusal settingsAt inRange encode headerBytes recordBytes
+unfolding refusalOf refusalIn layoutRefusal contentRefusal settingsAt inRange encode headerBytes settingsBytes recordBytes
 bytes-accepted = refl
 
 fresh-begins : mayBegin fresh zeroTally ≡ true
@@ -93,8 +94,8 @@ module _ (rows written : List ℕ) (rows-room : 20 ≤ length rows) (written-roo
         ∙ ap (λ (y : (List Row) × (List ℕ) × ℕ). sets written 0 (y .1)) printed-rows
 
     -- its tally is the one that is printed, and none of invented numbers
-    pub tally-is : r .tally ≡ record { hits = 1; misses = 4; evictions = 2; batches = 1; written = 1; refused = 0 }
-    tally-is = ap (λ (e : Ended). e .tally) ended ∙ printed-tally
+    pub tally-is : numbersOf (r .tally) ≡ 1 ∷ 4 ∷ 2 ∷ 1 ∷ 1 ∷ 0 ∷ []
+    tally-is = ap (λ (e : Ended). numbersOf (e .tally)) ended ∙ printed-tally
 
     -- a replay that refuses everything: the call
     pub refuses-the-call : 0 < r .refusal → ⊥

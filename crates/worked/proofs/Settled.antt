@@ -27,12 +27,13 @@ use Rattle.tally.specs.Tally.{tallyLimit, countedRows}
 use Rattle.effect.specs.Record.{recordOf, dirtyIn}
 use Rattle.replay.specs.declared.Stepped.{Stepped}
 use Rattle.replay.specs.declared.Ended.{Ended}
-use Rattle.replay.specs.Replay.{Played, replayTo, replayOf, numbersOf}
+use Rattle.replay.specs.Replay.{Played, replayTo, replayOf, rowsNumbers}
 use Rattle.replay.specs.Calls.{mayBegin, StepInto, roomFor, countsRefusal, replayRefusal, endedOf, countsOf, ReplayInto}
 use Rattle.replay.specs.ForCode.{RanInto}
 use Rattle.replay.proofs.Laws.{doing, replay-suc, rows-length, replay-tally, numbers-length, writesTo, writes-all}
 use Rattle.replay.proofs.Begins.{begins-sound, begins-within}
 use Rattle.replay.proofs.Going.{Going, going}
+use Rattle.worked.specs.Rows.{rowIn}
 
 -- any two outcomes that the step's contract allows are the same
 pub step-one : (p : Pool) (t : Tally) (page kind : ℕ) (list : List ℕ) (a b : Stepped) (list₁ list₂ : List ℕ)
@@ -49,13 +50,8 @@ replay-one p t s rows written a b rows₁ rows₂ written₁ written₂ x y =
 pub counts-one : (p : Pool) (t : Tally) (s : List ℕ) (a b : Ended) → a ≡ countsOf p t s → b ≡ countsOf p t s → a ≡ b
 counts-one p t s a b x y = x ∙ sym y
 
--- row i of a list of numbers, four each
-abbrev pub rowIn : List ℕ → ℕ → Row
-rowIn l zero = row (getD l 0 0) (getD l 1 0) (getD l 2 0) (getD l 3 0)
-rowIn l (suc i) = rowIn (drop 4 l) i
-
-rows-in : (ws : List Row) (rest : List ℕ) (i : ℕ) (w : Row) → i < length ws → rowIn (numbersOf ws ++ rest) i ≡ getD ws i w
-unfolding numbersOf
+rows-in : (ws : List Row) (rest : List ℕ) (i : ℕ) (w : Row) → i < length ws → rowIn (rowsNumbers ws ++ rest) i ≡ getD ws i w
+unfolding rowsNumbers
 rows-in [] rest i w l = absurd (omega arith)
 rows-in (v ∷ ws) rest zero w l = refl
 rows-in (v ∷ ws) rest (suc i) w l = rows-in ws rest i w (omega arith)
@@ -107,7 +103,8 @@ module _ (p : Pool) (t : Tally) (s rows written : List ℕ) (r : Ended) (rows′
     unfolding replayRefusal
     met-all = neither (countsRefusal p t s) (demand (roomFor p (traceOf s) (length rows) (length written)) noRoom 0) granted
 
-    begun : mayBegin p t ≡ true
+    -- it may begin, so that its pool is sound
+    pub begun : mayBegin p t ≡ true
     unfolding countsRefusal
     begun = met (mayBegin p t) notSound (orElse (refusalOf s) (demand (sameSettings (traceOf s .settings) (p .settings)) otherSettings 0)) (omega arith) (met-all .0) .0
 
@@ -129,7 +126,7 @@ module _ (p : Pool) (t : Tally) (s rows written : List ℕ) (r : Ended) (rows′
         let n = numbers-length ws in
         let m = rows-length p t (traceOf s) (length (traceOf s .pages)) in
         let room = roomy .0 in
-        ap (λ (z : List ℕ). rowIn z i) (ran .rows-hold ∙ sets-eq (numbersOf ws) rows 0 (omega arith)) ∙ rows-in ws (drop (0 + length (numbersOf ws)) rows) i w (omega arith)
+        ap (λ (z : List ℕ). rowIn z i) (ran .rows-hold ∙ sets-eq (rowsNumbers ws) rows 0 (omega arith)) ∙ rows-in ws (drop (0 + length (rowsNumbers ws)) rows) i w (omega arith)
 
     -- and row i is what record i does to the pool that those before it left
     pub each-record : (i : ℕ) → i < length (traceOf s .pages)

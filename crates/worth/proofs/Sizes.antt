@@ -1,4 +1,4 @@
--- Bounds: with now at most 50,000, up to 8 entries in a log and a weight of at most 16, every product fits 64 bits.
+-- Bounds: with now within the limit of references, up to 8 entries in a log and a weight of at most 16, every product fits 64 bits.
 use mathlib.Core.Path.{_≡_, sym, ap}
 use mathlib.Core.List.{List}
 use Prim.Native.Nat.{ℕ, zero, suc, _+_, _*_, _^_, _≤_, _<_}
@@ -9,7 +9,8 @@ use lib.ListN.{getD}
 use lib.Dec.{eqb}
 use Rattle.search.proofs.Every.{pick-ind}
 use Rattle.worth.specs.Value.{fraction, ageOf, partOf, lessFraction, greaterOf, worthOf, valueOf}
-use Rattle.worth.specs.Sizes.{Small, WorthSmall}
+use Rattle.worth.specs.Sizes.{worthNum, worthDen, weightLimit, valueNum, valueDen, Small, WorthSmall}
+use Rattle.limit.specs.Limits.{referenceLimit}
 use Rattle.worth.specs.declared.Fraction.{Fraction}
 
 -- what holds of both holds of the greater
@@ -35,10 +36,10 @@ worth-turn a at n epoch age best part next e b p g = rw (e, b, p, g) (sym (worth
 
 -- ---- comparing
 
-pub cross : (a b : Fraction) → Small a → Small b → a .num * b .den ≤ 70000000 * 250000000000
+pub cross : (a b : Fraction) → Small a → Small b → a .num * b .den ≤ valueNum * valueDen
 cross a b s t = mul-le-mul (s .num) (t .den)
 
-pub cross-fits : 70000000 * 250000000000 < 2 ^ 64
+pub cross-fits : valueNum * valueDen < 2 ^ 64
 cross-fits = omega arith
 
 pub small : (a : Fraction) → WorthSmall a → Small a
@@ -46,16 +47,16 @@ small a s = let n = s .num in let d = s .den in record { num = omega arith; den 
 
 -- ---- parts and worths
 
-pub age-small : (epoch t : ℕ) → epoch ≤ 50000 → ageOf epoch t ≤ 50000
+pub age-small : (epoch t : ℕ) → epoch ≤ referenceLimit → ageOf epoch t ≤ referenceLimit
 age-small epoch t h = omega arith
 
-pub part-small : (j age : ℕ) → j < 8 → age ≤ 50000 → WorthSmall (partOf j age)
+pub part-small : (j age : ℕ) → j < worthNum → age ≤ referenceLimit → WorthSmall (partOf j age)
 part-small j age l h =
     part-keeps WorthSmall j age
     (record { num = omega arith; den = omega arith })
     (record { num = omega arith; den = omega arith })
 
-pub worth-small : (a : List ℕ) (at n epoch : ℕ) → n ≤ 8 → epoch ≤ 50000 → WorthSmall (worthOf a at n epoch)
+pub worth-small : (a : List ℕ) (at n epoch : ℕ) → n ≤ worthNum → epoch ≤ referenceLimit → WorthSmall (worthOf a at n epoch)
 unfolding worthOf
 worth-small a at zero epoch l h = record { num = omega arith; den = omega arith }
 worth-small a at (suc n) epoch l h =
@@ -68,22 +69,22 @@ worth-small a at (suc n) epoch l h =
 
 -- the products of a value
 pub record Sizes (access write : Fraction) (weight : ℕ) : Type 0 where
-  pub left : access .num * write .den ≤ 8 * 500000
-  pub weighed : weight * write .num ≤ 16 * 8
-  pub right : weight * write .num * access .den ≤ 16 * 8 * 500000
-  pub den : access .den * write .den ≤ 500000 * 500000
+  pub first : access .num * write .den ≤ worthNum * worthDen
+  pub weighed : weight * write .num ≤ weightLimit * worthNum
+  pub second : weight * write .num * access .den ≤ weightLimit * worthNum * worthDen
+  pub den : access .den * write .den ≤ valueDen
 
 pub value-sizes : (access write : Fraction) (weight : ℕ)
-    → WorthSmall access → WorthSmall write → weight ≤ 16 → Sizes access write weight
+    → WorthSmall access → WorthSmall write → weight ≤ weightLimit → Sizes access write weight
 value-sizes access write weight s t h = record {
-  left = mul-le-mul (s .num) (t .den);
+  first = mul-le-mul (s .num) (t .den);
   weighed = mul-le-mul h (t .num);
-  right = mul-le-mul (mul-le-mul h (t .num)) (s .den);
+  second = mul-le-mul (mul-le-mul h (t .num)) (s .den);
   den = mul-le-mul (s .den) (t .den);
 }
 
 pub value-small : (access write : Fraction) (weight : ℕ)
-    → WorthSmall access → WorthSmall write → weight ≤ 16 → Small (valueOf access write weight)
+    → WorthSmall access → WorthSmall write → weight ≤ weightLimit → Small (valueOf access write weight)
 unfolding valueOf
 value-small access write weight s t h =
     let z = value-sizes access write weight s t h in

@@ -37,6 +37,10 @@ unfoldable pub valueOf : Fraction → Fraction → ℕ → Fraction
 valueOf access write weight =
     fraction (access .num * write .den + weight * write .num * access .den) (access .den * write .den)
 
--- "of least value, the lowest frame number on a tie": whether frame i comes before frame j, v the frames' values
+-- "of least value, the lowest frame number on a tie": whether frame i of value a comes before frame j of value b
+abbrev pub isAhead : Fraction → ℕ → Fraction → ℕ → Bool
+isAhead a i b j = lessFraction a b || (not (lessFraction b a) && ltb i j)
+
+-- the same, v the frames' values
 abbrev pub ahead : (ℕ → Fraction) → ℕ → ℕ → Bool
-ahead v i j = lessFraction (v i) (v j) || (not (lessFraction (v j) (v i)) && ltb i j)
+ahead v i j = isAhead (v i) i (v j) j

@@ -2,8 +2,9 @@
 ghost use mathlib.Core.Path.{_≡_};
 ghost use Prim.Native.Nat.{_+_, _<_, _≤_};
 ghost use lib.ListN.{length};
+ghost use Rattle.limit.specs.Limits.{referenceLimit};
 ghost use Rattle.worth.specs.Value.{ageOf, partOf, lessFraction, greaterOf, worthOf, valueOf};
-ghost use Rattle.worth.specs.Sizes.{Small, WorthSmall};
+ghost use Rattle.worth.specs.Sizes.{worthNum, weightLimit, Small, WorthSmall};
 
 pub struct Fraction {
     pub num: u64,
@@ -15,13 +16,13 @@ pub fn less(a: Fraction, b: Fraction) -> bool
     requires { ⌜ Small a × Small b ⌝ }
     ensures { λ r. ⌜ r ≡ lessFraction a b ⌝ }
 {
-    let left = a.num * b.den;
-    let right = b.num * a.den;
-    left < right
+    let one = a.num * b.den;
+    let other = b.num * a.den;
+    one < other
 }
 
 // The greater of two, the first on a tie.
-pub fn greater(a: Fraction, b: Fraction) -> Fraction
+fn greater(a: Fraction, b: Fraction) -> Fraction
     requires { ⌜ Small a × Small b ⌝ }
     ensures { λ r. ⌜ r ≡ greaterOf a b ⌝ }
 {
@@ -32,15 +33,15 @@ pub fn greater(a: Fraction, b: Fraction) -> Fraction
 }
 
 // How long ago t was, with 0 counted as 1.
-pub fn age(epoch: u32, t: u32) -> u32
+fn age(epoch: u32, t: u32) -> u32
     ensures { λ r. ⌜ r ≡ ageOf epoch t ⌝ }
 {
     if t < epoch { epoch - t } else { 1 }
 }
 
 // The part of an entry that has j newer ones before it.
-pub fn part(j: usize, age: u32) -> Fraction
-    requires { ⌜ j < 8 ⌝ }
+fn part(j: usize, age: u32) -> Fraction
+    requires { ⌜ j < worthNum ⌝ }
     ensures { λ r. ⌜ r ≡ partOf j age ⌝ }
 {
     let d = age as u64;
@@ -58,7 +59,7 @@ pub fn part(j: usize, age: u32) -> Fraction
 
 // The worth of the log of len entries that starts at `at`, newest first.
 pub fn log_worth(a: &[u32], at: usize, len: usize, epoch: u32) -> Fraction
-    requires { ⌜ (at + len ≤ length (now a)) × (len ≤ 8) × (epoch ≤ 50000) ⌝ }
+    requires { ⌜ (at + len ≤ length (now a)) × (len ≤ worthNum) × (epoch ≤ referenceLimit) ⌝ }
     ensures { λ r. ⌜ r ≡ worthOf (now (a .entry)) at len epoch ⌝ }
 {
     let mut best = Fraction { num: 0, den: 1 };
@@ -73,7 +74,7 @@ pub fn log_worth(a: &[u32], at: usize, len: usize, epoch: u32) -> Fraction
 
 // The access worth and weight times the write worth.
 pub fn value(access: Fraction, write: Fraction, weight: u16) -> Fraction
-    requires { ⌜ WorthSmall access × WorthSmall write × (weight ≤ 16) ⌝ }
+    requires { ⌜ WorthSmall access × WorthSmall write × (weight ≤ weightLimit) ⌝ }
     ensures { λ r. ⌜ r ≡ valueOf access write weight ⌝ }
 {
     let m = weight as u64;

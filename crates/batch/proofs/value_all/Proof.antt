@@ -6,9 +6,9 @@ use Rattle.settings.proofs.Laws.{ranges}
 use Rattle.pool.specs.Pool.{nowOf}
 use Rattle.pool.proofs.Sound.{told}
 use Rattle.table.specs.Table.{poolIn}
-use Rattle.victim.proofs.watt.Values.{fitting}
+use Rattle.victim.proofs.watt.Values.{fitting, now-is}
 use Rattle.batch.specs.ForCode.{ValuedTo}
-use Rattle.batch.proofs.Values.{now-is, valued-none, valued-more}
+use Rattle.batch.proofs.Values.{valued-none, valued-more}
 use borrow.Author.Needs.{needs}
 use Rattle.batch.proofs.value_all.Statement.{statement}
 use Rattle.batch.proofs.value_all.Tie as tie
@@ -22,7 +22,7 @@ abbrev μ-loop : tie.MeasureT-loop
 μ-loop h table access write v epoch f waiting₀ nums₀ dens₀ i₀ waiting nums dens i = f - i
 
 now-of-requires : tie.Need-now-of-requires Inv-loop μ-loop
-now-of-requires c κs = ranges _ (told _ (c .pre) .settings) .epoch .0
+now-of-requires c κs = ranges _ (told _ (c .pre) .settings) .span .0
 
 loop-holds : tie.Need-loop-holds Inv-loop μ-loop
 loop-holds c =

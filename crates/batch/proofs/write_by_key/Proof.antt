@@ -8,12 +8,12 @@ use lib.ListN.{length, getD, length-set}
 use lib.Dec.{ltb}
 use Rattle.search.specs.declared.Found.the-variants.{At}
 use Rattle.search.specs.Search.{leastBelow}
-use Rattle.search.specs.ForCode.{keyed}
-use Rattle.batch.specs.Taken.{left, othersTo}
+use Rattle.search.specs.ForCode.{keyed, rankLimit}
+use Rattle.batch.specs.Taken.{remaining, othersTo}
 use Rattle.batch.specs.ForCode.{hasKey, keyRank, Keys}
-use Rattle.batch.proofs.Batching.{Batching, starts, all-left, found-room, kept-more, turn, full, ends}
+use Rattle.batch.proofs.Batching.{Batching, starts, all-remain, found-room, kept-more, turn, full, ends}
 use Rattle.batch.proofs.Written.{wrote-length}
-use Rattle.batch.proofs.Keyed.{left-small, lowest-found, lowest-nothing}
+use Rattle.batch.proofs.Keyed.{remaining-small, lowest-found, lowest-nothing}
 use borrow.Author.Needs.{needs}
 use Rattle.batch.proofs.write_by_key.Statement.{statement}
 use Rattle.batch.proofs.write_by_key.Tie as tie
@@ -23,7 +23,7 @@ before keys i j = ltb (keyRank keys i) (keyRank keys j)
 
 -- those that are left after n
 abbrev rest : List ℕ → ℕ → ℕ → ℕ → Bool
-rest keys f n = left (hasKey keys) (before keys) f (othersTo (hasKey keys) (before keys) f n)
+rest keys f n = remaining (hasKey keys) (before keys) f (othersTo (hasKey keys) (before keys) f n)
 
 abbrev Inv-loop : tie.InvT-loop
 Inv-loop table₀ keys₀ f most out₀ at n₀ table keys out n =
@@ -37,10 +37,10 @@ loop-holds : tie.Need-loop-holds Inv-loop μ-loop
 loop-holds c =
     let a = c .before in
     let k = now (a .args .keys) in
-    (search needs, a .pre .1, starts _ _ _ _ _ _, λ i l. a .pre .2 i l .0 ∙ ap (λ (b : Bool). keyed b (keyRank k i) i) (all-left (hasKey k) (before k) (a .args .f) i))
+    (search needs, a .pre .1, starts _ _ _ _ _ _, λ i l. a .pre .2 i l .0 ∙ ap (λ (b : Bool). keyed b (keyRank k i) i) (all-remain (hasKey k) (before k) (a .args .f) i))
 
-small : (keys : List ℕ) (f n : ℕ) → Keys keys f → (i : ℕ) → i < f → rest keys f n i ≡ true → keyRank keys i ≤ 50000
-small keys f n h = left-small (hasKey keys) (before keys) f (othersTo (hasKey keys) (before keys) f n) (keyRank keys) (λ i l. h i l .1)
+small : (keys : List ℕ) (f n : ℕ) → Keys keys f → (i : ℕ) → i < f → rest keys f n i ≡ true → keyRank keys i ≤ rankLimit
+small keys f n h = remaining-small (hasKey keys) (before keys) f (othersTo (hasKey keys) (before keys) f n) (keyRank keys) (λ i l. h i l .1)
 
 returns : tie.Need-returns Inv-loop μ-loop
 returns c =

@@ -8,9 +8,9 @@ use lib.ListN.{length, getD, length-set}
 use Rattle.search.specs.declared.Found.the-variants.{At}
 use Rattle.search.specs.Search.{leastBelow}
 use Rattle.worth.specs.Value.{lessFraction}
-use Rattle.batch.specs.Taken.{left, othersTo}
+use Rattle.batch.specs.Taken.{remaining, othersTo}
 use Rattle.batch.specs.ForCode.{heldValue}
-use Rattle.batch.proofs.Batching.{Batching, starts, all-left, marked, found-below, found-room, kept-more, turn, full, ends}
+use Rattle.batch.proofs.Batching.{Batching, starts, all-remain, marked, found-below, found-room, kept-more, turn, full, ends}
 use Rattle.batch.proofs.Written.{wrote-length}
 use borrow.Author.Needs.{needs}
 use Rattle.batch.proofs.write_by_value.Statement.{statement}
@@ -24,7 +24,7 @@ before nums dens i j = lessFraction (heldValue nums dens i) (heldValue nums dens
 
 -- those that are left after n
 abbrev rest : List Bool → List ℕ → List ℕ → ℕ → ℕ → ℕ → Bool
-rest ws nums dens f n = left (marks ws) (before nums dens) f (othersTo (marks ws) (before nums dens) f n)
+rest ws nums dens f n = remaining (marks ws) (before nums dens) f (othersTo (marks ws) (before nums dens) f n)
 
 abbrev Inv-loop : tie.InvT-loop
 Inv-loop table₀ f most out₀ at waiting₀ nums dens n₀ table out waiting n =
@@ -37,7 +37,7 @@ abbrev μ-loop : tie.MeasureT-loop
 loop-holds : tie.Need-loop-holds Inv-loop μ-loop
 loop-holds c =
     let a = c .before .before .before .before .args in
-    (search needs, search needs, starts _ _ _ _ _ _, λ i _. all-left (marks (a .first .waiting)) (before (a .first .nums) (a .first .dens)) (a .f) i)
+    (search needs, search needs, starts _ _ _ _ _ _, λ i _. all-remain (marks (a .first .waiting)) (before (a .first .nums) (a .first .dens)) (a .f) i)
 
 next-requires : tie.Need-next-requires Inv-loop μ-loop
 next-requires c κs = let a = c .before .before .before .before .before .before .before .before .before in (a .pre .0, a .pre .1)

@@ -33,7 +33,7 @@ returns c =
     let g = e .before .before in
     let n = g .before in
     let a = n .before .args in
-    fetch-left (poolIn (a .h) (now (a .table)) (now (a .access)) (now (a .write))) _ _ _ _ (n .now-of .ensures) (c .counting .ensures) _ _ _ _ _ _ _ _ _
+    fetch-left (poolIn (a .h) (now (a .table)) (now (a .access)) (now (a .write))) _ _ _ _ _ (n .now-of .ensures) (c .counting .ensures) _ _ _ _ _ _ _ _ _
     (g .fetched-frame .ensures) (e .clear-access .ensures .0) (d .clear-write .ensures .0)
     (x .enter-access .ensures) (w .enter-write .ensures) (k .note .ensures .1 ∙ p .put .ensures)
 
@@ -41,7 +41,7 @@ pub enter-fetch-spec : {M : Type 1} → statement M
 enter-fetch-spec =
     tie.close
     (tie.spec
-    (λ c κs. c .pre .epoch)
+    (λ c κs. c .pre .span)
     (λ c κs. search needs)
     (λ c κs. c .before .before .before .pre .frame)
     (λ c κs. c .before .before .before .before .before .pre .frame)

@@ -14,7 +14,7 @@ enter-access-requires c κs =
     let f = g .before in
     let a = f .before .before .before in
     let x = a .args in
-    let same = hit-accesses (framesIn (now (x .table))) (x .i) (x .kind) (x .h .settings .cap) (x .h .k) _ _ (f .frame-at .ensures) (g .hit-frame .ensures) in
+    let same = hit-accesses (framesIn (now (x .table))) (x .i) (x .writes) (x .pins) (x .h .settings .cap) (x .h .k) _ _ (f .frame-at .ensures) (g .hit-frame .ensures) in
     (a .pre .0 .frame, subst (λ (n : ℕ). RestZero (now (x .access)) (x .i * 8) 8 n) (sym same) (a .pre .1 .access))
 
 enter-write-requires : tie.Need-enter-write-requires
@@ -23,7 +23,7 @@ enter-write-requires c κs =
     let f = g .before in
     let a = f .before .before .before in
     let x = a .args in
-    let same = hit-writes (framesIn (now (x .table))) (x .i) (x .kind) (x .h .settings .cap) (x .h .k) _ _ (f .frame-at .ensures) (g .hit-frame .ensures) in
+    let same = hit-writes (framesIn (now (x .table))) (x .i) (x .writes) (x .pins) (x .h .settings .cap) (x .h .k) _ _ (f .frame-at .ensures) (g .hit-frame .ensures) in
     (a .pre .0 .frame, subst (λ (n : ℕ). RestZero (now (x .write)) (x .i * 4) 4 n) (sym same) (a .pre .1 .write))
 
 put-requires : tie.Need-put-requires
@@ -38,14 +38,14 @@ returns c =
     let f = g .before in
     let n = f .before .before in
     let a = n .before .args in
-    hit-left (poolIn (a .h) (now (a .table)) (now (a .access)) (now (a .write))) _ _ _ _ (n .now-of .ensures) (c .counting .ensures) _ _ _ _ _ _ _
+    hit-left (poolIn (a .h) (now (a .table)) (now (a .access)) (now (a .write))) _ _ _ _ _ (n .now-of .ensures) (c .counting .ensures) _ _ _ _ _ _ _
     (f .frame-at .ensures) (g .hit-frame .ensures) (x .enter-access .ensures) (w .enter-write .ensures) (p .put .ensures)
 
 pub enter-hit-spec : {M : Type 1} → statement M
 enter-hit-spec =
     tie.close
     (tie.spec
-    (λ c κs. c .pre .0 .epoch)
+    (λ c κs. c .pre .0 .span)
     (λ c κs. c .before .before .pre .0 .frame)
     (λ c κs. c .before .before .before .pre .0 .cap)
     enter-access-requires

@@ -10,7 +10,7 @@ returns c =
     let c2 = c3 .before .before .before .before in
     let c1 = c2 .before .before .before .before in
     let a = c1 .before .before .before .args in
-    header-stores (a .order) (a .settings) (a .n) (a .writes) (now (a .out)) _ _ _ (c1 .put-counts .ensures) (c2 .put-shorts .ensures) (c3 .put-longs .ensures)
+    header-stores (a .order) (a .settings) (a .n) (a .writes) (now (a .out)) _ _ _ (c1 .put-counts .ensures) (c2 .put .ensures) (c3 .put32 .ensures)
 
 pub put-header-spec : {M : Type 1} → statement M
 put-header-spec =

@@ -6,7 +6,7 @@ use Rattle.pool.proofs.check.Statement.{statement}
 use Rattle.pool.proofs.check.Tie as tie
 
 frames-sound-requires : tie.Need-frames-sound-requires
-frames-sound-requires c κs = ranges _ (sym (c .before .in-range .ensures) ∙ c .if1 .taken) .epoch .0
+frames-sound-requires c κs = ranges _ (sym (c .before .in-range .ensures) ∙ c .if1 .taken) .span .0
 
 returns : tie.Need-returns
 returns c =

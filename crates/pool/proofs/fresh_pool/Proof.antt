@@ -1,11 +1,11 @@
-use mathlib.Core.Path.{refl}
+use borrow.Author.Needs.{needs}
 use Rattle.pool.specs.Pool.{freshPool}
 use Rattle.pool.proofs.fresh_pool.Statement.{statement}
 use Rattle.pool.proofs.fresh_pool.Tie as tie
 
 returns : tie.Need-returns
 unfolding freshPool
-returns c = refl
+returns c = rw (c .empty-frame .ensures)
 
 pub fresh-pool-spec : {M : Type 1} → statement M
-fresh-pool-spec = tie.close (tie.spec returns)
+fresh-pool-spec = tie.close (tie.spec (λ c κs. search needs) returns)

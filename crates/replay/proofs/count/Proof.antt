@@ -41,8 +41,8 @@ play-requires c κs =
     let a = w .before .before .before .before .args in
     rw (l .loop .inv .1) (count-plays (first w) (a .tally) (now (a .bytes)) (a .summary) (sizes w) (ready w) _ _ _ (r .before .loop-test .taken) (l .loop .inv .2) _ (r .record-at .ensures))
 
-counted-requires : tie.Need-counted-requires Inv-loop μ-loop
-counted-requires c κs =
+raised-requires : tie.Need-raised-requires Inv-loop μ-loop
+raised-requires c κs =
     let e = c .before .before in
     let r = e .before .before .before .before .before in
     let l = r .before .before in
@@ -68,7 +68,7 @@ loop-again c =
     let same = played (first w) (a .tally) (now (a .bytes)) (a .summary) (sizes w) (ready w) _ _ _ (r .before .loop-test .taken) (l .loop .inv .2) _ (r .record-at .ensures) in (
       search needs,
       search needs,
-      counting-more _ _ _ _ _ _ _ _ _ (l .loop .inv .2) same (e .play .ensures .effect) (n .counted .ensures),
+      counting-more _ _ _ _ _ _ _ _ _ (l .loop .inv .2) same (e .play .ensures .effect) (n .raised .ensures),
     )
 
 returns : tie.Need-returns Inv-loop μ-loop
@@ -93,7 +93,7 @@ count-spec =
     (λ c κs. (c .before .before .before .before .before .before .before .before .pre .accepted, c .loop-test .taken))
     (λ c. search needs)
     play-requires
-    counted-requires
+    raised-requires
     add-i
     (λ c. let l = c .before .before .before .before .before .before .before .before .before .before .loop-test .taken in omega arith)
     loop-again

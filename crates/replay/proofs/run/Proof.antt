@@ -4,6 +4,7 @@ use mathlib.Core.Bool.{true}
 use native.Mathlib.Omega.{arith}
 use lib.ListN.{length}
 use denote.Ref.{now}
+use Rattle.trace.specs.Layout.{recordLimit}
 use Rattle.trace.specs.Check.{traceOf}
 use Rattle.trace.proofs.Accept.{accepted-few, counts-are}
 use Rattle.pool.specs.declared.Pool.{Pool}
@@ -60,7 +61,7 @@ play-requires c κs =
           (length (now (a .rows))) (length (now (a .list))) (room w) _ _ _ _ _ (g .4));
     }
 
-few-records : (r : tie.After-record-at Inv-loop μ-loop) → r .before .before .loop .i ≤ 8000
+few-records : (r : tie.After-record-at Inv-loop μ-loop) → r .before .before .loop .i ≤ recordLimit
 few-records r =
     let few = accepted-few _ _ (r .before .before .before .before .before .before .before .before .before .before .before .pre .0 .accepted) in
     let l = r .before .loop-test .taken in
@@ -80,8 +81,8 @@ put-row-requires c κs =
     (row-room (first w) (a .tally) (now (a .bytes)) (a .summary) (sizes w) (ready w) _ _ _ (r .before .loop-test .taken) (g .3) _ (r .record-at .ensures)
     (length (now (a .rows))) (length (now (a .list))) (room w) _ _ _ _ _ (g .4))
 
-counted-requires : tie.Need-counted-requires Inv-loop μ-loop
-counted-requires c κs =
+raised-requires : tie.Need-raised-requires Inv-loop μ-loop
+raised-requires c κs =
     let e = c .before .before .before .before .before .before .before in
     let r = e .before .before .before .before .before in
     let l = r .before .before in
@@ -120,7 +121,7 @@ loop-again c =
       search needs,
       stored-length (l .loop .rows) _ (rowNumbers (e .play .result .row)) (4 * l .loop .i) _ (o .before .put-row .ensures) (g .1),
       stored-length (l .loop .list) _ (recordOf (poolIn (l .loop .h) (l .loop .table) (l .loop .access) (l .loop .write)) (r .record-at .result .page) (r .record-at .result .kind) .written) (l .loop .at) _ (e .play .ensures .list) (g .2),
-      counting-more _ _ _ _ _ _ _ _ _ (g .3) same (e .play .ensures .effect) (n .counted .ensures),
+      counting-more _ _ _ _ _ _ _ _ _ (g .3) same (e .play .ensures .effect) (n .raised .ensures),
       listing-more _ _ _ _ _ _ _ _ _ _ (g .4) same _ _ _ _ (ap (λ (x : Effect). x .row) (e .play .ensures .effect)) batch (o .before .put-row .ensures) (e .play .ensures .list),
     )
 
@@ -152,7 +153,7 @@ run-spec =
     play-requires
     mul-put-row
     put-row-requires
-    counted-requires
+    raised-requires
     (λ c. search needs)
     add-at
     add-i

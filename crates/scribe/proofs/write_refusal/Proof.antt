@@ -4,6 +4,7 @@ use borrow.Author.Tests.{leb-true}
 use lib.Dec.{leb}
 use lib.ListN.{length}
 use denote.Ref.{now}
+use Rattle.trace.specs.Layout.{recordLimit}
 use Rattle.scribe.specs.Write.{writeRefusal}
 use borrow.Author.Needs.{needs}
 use Rattle.scribe.proofs.write_refusal.Statement.{statement}
@@ -14,7 +15,7 @@ add-demanded c =
     let a = c .before .before .before .before .args in
     let p = length (now (a .pages)) in
     let k = length (now (a .kinds)) in
-    let few = leb-true p 8000 (and-eq-true-iff (leb p 8000) (leb k 8000) .0 (c .before .if1 .taken) .0) in
+    let few = leb-true p recordLimit (and-eq-true-iff (leb p recordLimit) (leb k recordLimit) .0 (c .before .if1 .taken) .0) in
     omega arith
 
 returns : tie.Need-returns

@@ -1,3 +1,4 @@
+use mathlib.Core.Bool.{and-true}
 use Rattle.settings.specs.Settings.{inRange}
 use borrow.Author.Needs.{needs}
 use Rattle.settings.proofs.in_range.Statement.{statement}
@@ -15,6 +16,7 @@ returns c =
       c .before .before .before .before .before .before .before .before .before .within2 .ensures,
       c .before .before .before .before .before .before .before .before .before .before .before .within .ensures,
     )
+    (simp and-true)
 
 pub in-range-spec : {M : Type 1} → statement M
 in-range-spec =

@@ -3,14 +3,14 @@ use mathlib.Core.Path.{_≡_, refl, _∙_}
 use native.Mathlib.Omega.{arith}
 use lib.ListN.{length}
 use Rattle.pool.proofs.Sizes.{sized}
-use Rattle.table.specs.Table.{framesIn}
+use Rattle.table.specs.Table.{tableLength, framesIn}
 use Rattle.table.proofs.Held.{Filled, frames-long, filled-none, filled-more, filled-all}
 use borrow.Author.Needs.{needs}
 use Rattle.table.proofs.table_of.Statement.{statement}
 use Rattle.table.proofs.table_of.Tie as tie
 
 abbrev Inv-loop : tie.InvT-loop
-Inv-loop p table₀ i₀ table i = (i ≤ 128) × (length table ≡ 2048) × Filled (p .frames) (framesIn table) i
+Inv-loop p table₀ i₀ table i = (i ≤ 128) × (length table ≡ tableLength) × Filled (p .frames) (framesIn table) i
 
 abbrev μ-loop : tie.MeasureT-loop
 μ-loop p table₀ i₀ table i = 128 - i

@@ -6,7 +6,7 @@ use Rattle.trace.proofs.checked_in.Tie as tie
 
 returns : tie.Need-returns
 returns c =
-    rw (sym (c .before .before .before .refusal-in .ensures) ∙ c .before .before .if1 .taken, ← told, c .before .settings-at .ensures, c .get32 .ensures)
+    rw (sym (c .before .before .before .refusal-in .ensures) ∙ c .before .before .if1 .taken, ← told, c .before .read .ensures, c .get32 .ensures)
 
 returns-2 : tie.Need-returns-2
 returns-2 c = rw (← c .before .refusal-in .ensures) (refused _ _ (c .if1 .left))

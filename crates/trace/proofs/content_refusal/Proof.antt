@@ -11,7 +11,7 @@ returns c =
       c .before .before .demanded2 .ensures,
       c .before .before .before .before .demanded .ensures,
       c .before .before .before .before .before .in-range .ensures,
-      c .before .before .before .before .before .before .settings-at .ensures,
+      c .before .before .before .before .before .before .read .ensures,
       c .before .before .before .before .before .before .before .before .survey-of .ensures .0,
       c .before .before .before .before .before .before .before .before .survey-of .ensures .1,
       c .before .before .before .before .before .before .before .before .survey-of .ensures .2,

@@ -20,4 +20,4 @@ pub layout-refusal-spec : {M : Type 1} → statement M
 layout-refusal-spec =
     tie.close
     (tie.spec (search needs) (search needs) (search needs) (search needs) (search needs) (search needs) (search needs)
-    (search needs) (search needs) (search needs) (search needs) returns)
+    (search needs) (search needs) (search needs) (search needs) (search needs) returns)

@@ -80,8 +80,8 @@ inside fs h r = go (ltb h (length fs)) refl
 
 -- Visits left until the hand rests, at the latest at the unpinned frame u: counts plus distance.
 
-abbrev pub left : ℕ → ℕ → List Frame → ℕ → ℕ
-left f u fs h = f * frameAt fs u .count + dist f h u
+abbrev pub toGo : ℕ → ℕ → List Frame → ℕ → ℕ
+toGo f u fs h = f * frameAt fs u .count + dist f h u
 
 -- an unpinned frame on which the hand does not rest has a count, which passing lowers
 count-falls : (f : ℕ) (fr : Frame) → eqb (fr .pins) 0 ≡ true → rests fr ≡ false → f * passedFrame fr .count + f ≡ f * fr .count
@@ -92,7 +92,7 @@ count-falls f fr t r = rw t (go (fr .count) (sym (rw t) ∙ r))
     go (suc n) e = let q : suc n - 1 ≡ n = omega arith in rw q (omega arith)
 
 module _ (f u : ℕ) (uf : u < f) (fs : List Frame) (h : ℕ) (hf : h < f) (t : unpinned fs u ≡ true) (r : rests (frameAt fs h) ≡ false) where
-  falls-here : h ≡ u → suc (left f u (passed fs h) (nextHand f h)) ≡ left f u fs h
+  falls-here : h ≡ u → suc (toGo f u (passed fs h) (nextHand f h)) ≡ toGo f u fs h
   falls-here q =
       let home = dist-home f u uf in
       let here = dist-here f u in
@@ -100,17 +100,17 @@ module _ (f u : ℕ) (uf : u < f) (fs : List Frame) (h : ℕ) (hf : h < f) (t : 
       let falls = count-falls f (frameAt fs u) t r′ in
       let e : frameAt (passed fs u) u ≡ passedFrame (frameAt fs u) = getD-set-same fs u (passedFrame (frameAt fs u)) emptyFrame (inside fs u r′) in
       let goal : suc (f * passedFrame (frameAt fs u) .count + dist f (nextHand f u) u) ≡ f * frameAt fs u .count + dist f u u = omega arith in
-      subst (λ (x : ℕ). suc (left f u (passed fs x) (nextHand f x)) ≡ left f u fs x) (sym q) (subst (λ (fr : Frame). suc (f * fr .count + dist f (nextHand f u) u) ≡ left f u fs u) (sym e) goal)
+      subst (λ (x : ℕ). suc (toGo f u (passed fs x) (nextHand f x)) ≡ toGo f u fs x) (sym q) (subst (λ (fr : Frame). suc (f * fr .count + dist f (nextHand f u) u) ≡ toGo f u fs u) (sym e) goal)
 
-  falls-other : (h ≡ u → ⊥) → suc (left f u (passed fs h) (nextHand f h)) ≡ left f u fs h
+  falls-other : (h ≡ u → ⊥) → suc (toGo f u (passed fs h) (nextHand f h)) ≡ toGo f u fs h
   falls-other q =
       let d = dist-other f h u hf uf q in
-      subst (λ (fr : Frame). suc (f * fr .count + dist f (nextHand f h) u) ≡ left f u fs h)
+      subst (λ (fr : Frame). suc (f * fr .count + dist f (nextHand f h) u) ≡ toGo f u fs h)
       (sym (getD-set-other fs h u (passedFrame (frameAt fs h)) emptyFrame (λ e. q (sym e))))
       (omega arith)
 
-  pub left-falls : suc (left f u (passed fs h) (nextHand f h)) ≡ left f u fs h
-  left-falls = elim (ℕ-discrete h u) [ yes q ↦ falls-here q | no q ↦ falls-other q ]
+  pub to-go-falls : suc (toGo f u (passed fs h) (nextHand f h)) ≡ toGo f u fs h
+  to-go-falls = elim (ℕ-discrete h u) [ yes q ↦ falls-here q | no q ↦ falls-other q ]
 
 -- One visit of the sweep.
 

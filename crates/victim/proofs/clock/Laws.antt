@@ -18,10 +18,10 @@ use Rattle.pool.specs.Pool.{frameAt}
 use Rattle.pool.proofs.Sound.{Sound}
 use Rattle.pool.proofs.Quiet.{Quiet, sound-quiet}
 use Rattle.victim.specs.Choice.{Choice, unpinned, unmoved, leftBy}
-use Rattle.victim.specs.Clock.{rests, passedFrame, passed, nextHand, sweepFrom, visits, sweepOf, restedAt, sweptChoice, anyUnpinned, someUnpinned, clockChoice}
-use Rattle.victim.proofs.Owed.{AllPinned, repaged, repagedPool, repagedChoice, EmptyStays, frame-repaged, map-set, Lowered, lowered-same, lowered-more, quiet-of, Owes}
-use Rattle.victim.proofs.clock.Falling.{next-below, passed-at, passed-unpinned, left, left-falls}
-use Rattle.victim.proofs.clock.Sweeping.{home, home-free, left-few}
+use Rattle.victim.specs.Clock.{rests, passedFrame, passed, nextHand, sweepFrom, visits, sweepOf, restedAt, sweptChoice, anyUnpinned, someUnpinned, clockChoice, sooner, clockRule}
+use Rattle.victim.proofs.Owed.{AllPinned, repaged, repagedPool, repagedChoice, EmptyStays, frame-repaged, map-set, Lowered, lowered-same, lowered-more, quiet-of, Serves, Owes}
+use Rattle.victim.proofs.clock.Falling.{next-below, passed-at, passed-unpinned, toGo, to-go-falls}
+use Rattle.victim.proofs.clock.Sweeping.{home, home-free, to-go-few}
 
 -- The sweep comes to rest.
 
@@ -48,38 +48,38 @@ visits-sweep (suc n) f h fs = visit-sweep n f h fs (rests (frameAt fs h)) refl (
 
 module _ (f u : ℕ) (uf : u < f) where
   -- with more visits allowed than are left the hand rests
-  settles : (n h : ℕ) (fs : List Frame) → h < f → unpinned fs u ≡ true → left f u fs h < n → Rested f (sweepFrom n f h fs)
+  settles : (n h : ℕ) (fs : List Frame) → h < f → unpinned fs u ≡ true → toGo f u fs h < n → Rested f (sweepFrom n f h fs)
   unfolding sweepFrom
   settles zero h fs hf t l = absurd (omega arith)
   settles (suc n) h fs hf t l =
       pick-ind (Rested f) (rests (frameAt fs h)) (h, fs) (sweepFrom n f (nextHand f h) (passed fs h))
       (λ e. record { on = hf; rest = e })
-      (λ e. let q = left-falls f u uf fs h hf t e in settles n (nextHand f h) (passed fs h) (next-below f h hf) (passed-unpinned fs h u t) (omega arith))
+      (λ e. let q = to-go-falls f u uf fs h hf t e in settles n (nextHand f h) (passed fs h) (next-below f h hf) (passed-unpinned fs h u t) (omega arith))
 
   -- and however many more are allowed, it ends alike
-  ends-alike : (n m h : ℕ) (fs : List Frame) → h < f → unpinned fs u ≡ true → left f u fs h < n → left f u fs h < m → sweepFrom n f h fs ≡ sweepFrom m f h fs
+  ends-alike : (n m h : ℕ) (fs : List Frame) → h < f → unpinned fs u ≡ true → toGo f u fs h < n → toGo f u fs h < m → sweepFrom n f h fs ≡ sweepFrom m f h fs
   unfolding sweepFrom
   ends-alike zero m h fs hf t l k = absurd (omega arith)
   ends-alike (suc n) zero h fs hf t l k = absurd (omega arith)
   ends-alike (suc n) (suc m) h fs hf t l k =
       pick-same (rests (frameAt fs h)) (h, fs) (sweepFrom n f (nextHand f h) (passed fs h)) (sweepFrom m f (nextHand f h) (passed fs h))
-      (λ e. let q = left-falls f u uf fs h hf t e in ends-alike n m (nextHand f h) (passed fs h) (next-below f h hf) (passed-unpinned fs h u t) (omega arith) (omega arith))
+      (λ e. let q = to-go-falls f u uf fs h hf t e in ends-alike n m (nextHand f h) (passed fs h) (next-below f h hf) (passed-unpinned fs h u t) (omega arith) (omega arith))
 
   -- however many may be visited, no more are than are left, and the last
-  visits-few : (n h : ℕ) (fs : List Frame) → h < f → unpinned fs u ≡ true → visits n f h fs ≤ suc (left f u fs h)
+  visits-few : (n h : ℕ) (fs : List Frame) → h < f → unpinned fs u ≡ true → visits n f h fs ≤ suc (toGo f u fs h)
   unfolding visits
   visits-few zero h fs hf t = omega arith
   visits-few (suc n) h fs hf t =
-      pick-ind (λ (x : ℕ). suc x ≤ suc (left f u fs h)) (rests (frameAt fs h)) 0 (visits n f (nextHand f h) (passed fs h))
+      pick-ind (λ (x : ℕ). suc x ≤ suc (toGo f u fs h)) (rests (frameAt fs h)) 0 (visits n f (nextHand f h) (passed fs h))
       (λ e. omega arith)
-      (λ e. let q = left-falls f u uf fs h hf t e in let v = visits-few n (nextHand f h) (passed fs h) (next-below f h hf) (passed-unpinned fs h u t) in omega arith)
+      (λ e. let q = to-go-falls f u uf fs h hf t e in let v = visits-few n (nextHand f h) (passed fs h) (next-below f h hf) (passed-unpinned fs h u t) in omega arith)
 
 -- where a frame below f is unpinned, the hand rests below f on an unpinned frame with count 0, at most f × (cap + 1) frames visited
 pub sweep-rests : (p : Pool) (u : ℕ) → Sound p → u < p .settings .frames → unpinned (p .frames) u ≡ true
     → Rested (p .settings .frames) (sweepOf p) × ((n : ℕ) → visits n (p .settings .frames) (p .hand) (p .frames) ≤ p .settings .frames * (p .settings .cap + 1))
 unfolding sweepOf
 sweep-rests p u sound l t =
-    let few = left-few p u sound l in (
+    let few = to-go-few p u sound l in (
       settles (p .settings .frames) u l (p .settings .frames * (p .settings .cap + 1)) (p .hand) (p .frames) (sound .hand) t few,
       λ n. let v = visits-few (p .settings .frames) u l n (p .hand) (p .frames) (sound .hand) t in omega arith,
     )
@@ -89,7 +89,7 @@ pub sweep-whole : (p : Pool) (u n : ℕ) → Sound p → u < p .settings .frames
     → sweepFrom n (p .settings .frames) (p .hand) (p .frames) ≡ sweepOf p
 unfolding sweepOf
 sweep-whole p u n sound l t m =
-    let few = left-few p u sound l in
+    let few = to-go-few p u sound l in
     ends-alike (p .settings .frames) u l n (p .settings .frames * (p .settings .cap + 1)) (p .hand) (p .frames) (sound .hand) t (omega arith) few
 
 swept-rests : (p : Pool) → Sound p → someUnpinned p ≡ true → Rested (p .settings .frames) (sweepOf p)
@@ -178,9 +178,9 @@ clock-unpinned p v sound = clock-cases (λ c. c .found ≡ At v → (v < p .sett
     (λ none e. absurd (one-or-none v (sym e)))
 
 -- it finds none exactly where every frame below f is pinned
-pub clock-none : (p : Pool) → (clockChoice p .found ≡ Nothing → AllPinned p) × (AllPinned p → clockChoice p .found ≡ Nothing)
+pub clock-serves : Serves clockChoice
 unfolding sweptChoice
-clock-none p = (
+clock-serves p = (
   clock-cases (λ c. c .found ≡ Nothing → AllPinned p) p (λ some e. absurd (one-or-none (sweepOf p .0) e)) (λ none e. none-free p none),
   λ all. clock-cases (λ c. c .found ≡ Nothing) p (λ some. absurd (true≢false (sym some ∙ free-none p all))) (λ none. refl),
 )
@@ -230,8 +230,11 @@ pub clock-still : (p : Pool) → clockChoice p .found ≡ Nothing → leftBy p (
 unfolding sweptChoice
 clock-still p = clock-cases (λ c. c .found ≡ Nothing → leftBy p c ≡ p) p (λ some e. absurd (one-or-none (sweepOf p .0) e)) (λ none e. refl)
 
-pub clock-owes : Owes clockChoice
-clock-owes = record { unpinned = clock-unpinned; none = clock-none; still = clock-still; lowers = clock-lowers; long = clock-long; quiet = clock-quiet; sound = clock-sound; pages = clock-pages }
+clock-sorts : (new : Bool → ℕ → ℕ) → EmptyStays new → (p : Pool) (i j : ℕ) → sooner (repagedPool new p) i j ≡ sooner p i j
+clock-sorts new stays p i j = rw (frame-repaged new stays (p .frames) i, frame-repaged new stays (p .frames) j)
+
+pub clock-owes : Owes clockRule
+clock-owes = record { unpinned = clock-unpinned; still = clock-still; lowers = clock-lowers; long = clock-long; quiet = clock-quiet; sound = clock-sound; pages = clock-pages; sorts = clock-sorts }
 
 -- the victim's count after the sweep is 0, and the hand is then one past it
 pub clock-rest : (p : Pool) (v : ℕ) → Sound p → clockChoice p .found ≡ At v → (frameAt (clockChoice p .frames) v .count ≡ 0) × (clockChoice p .hand ≡ nextHand (p .settings .frames) v)

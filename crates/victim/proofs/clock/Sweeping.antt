@@ -17,7 +17,7 @@ use Rattle.pool.specs.Pool.{frameAt, withCount}
 use Rattle.pool.proofs.Sound.{Sound}
 use Rattle.victim.specs.Choice.{Choice, unpinned, unmoved}
 use Rattle.victim.specs.Clock.{rests, passedCount, passed, nextHand, sweepFrom, sweepOf, restedAt, sweptChoice, anyUnpinned, someUnpinned, clockChoice}
-use Rattle.victim.proofs.clock.Falling.{dist-below, next-below, passed-unpinned, left, left-falls, sweep-stop, sweep-on}
+use Rattle.victim.proofs.clock.Falling.{dist-below, next-below, passed-unpinned, toGo, to-go-falls, sweep-stop, sweep-on}
 
 -- The unpinned frame that a sweep comes to at the latest.
 
@@ -37,8 +37,8 @@ home-free p some = go (anyUnpinned (p .frames) (p .settings .frames)) refl some
     go (At i) e s = least-sound (unpinned (p .frames)) never (p .settings .frames) i e
 
 -- at the start fewer visits are left than f × (cap + 1)
-pub left-few : (p : Pool) (u : ℕ) → Sound p → u < p .settings .frames → left (p .settings .frames) u (p .frames) (p .hand) < p .settings .frames * (p .settings .cap + 1)
-left-few p u sound l =
+pub to-go-few : (p : Pool) (u : ℕ) → Sound p → u < p .settings .frames → toGo (p .settings .frames) u (p .frames) (p .hand) < p .settings .frames * (p .settings .cap + 1)
+to-go-few p u sound l =
     let few = ranges (p .settings) (sound .settings) .frames .1 in
     let d = dist-below (p .settings .frames) (p .hand) u (sound .hand) l in
     let m = mul-le-mul-left (p .settings .frames) (sound .frame u (omega arith) .capped) in
@@ -52,7 +52,7 @@ pub record Sweeping (p : Pool) (fs : List Frame) (h : ℕ) : Type 0 where
   pub below : home p < p .settings .frames
   pub free : unpinned fs (home p) ≡ true
   pub fuel : ℕ
-  pub enough : left (p .settings .frames) (home p) fs h < fuel
+  pub enough : toGo (p .settings .frames) (home p) fs h < fuel
   pub same : sweepFrom fuel (p .settings .frames) h fs ≡ sweepOf p
 
 pub start : (p : Pool) → Sound p → someUnpinned p ≡ true → Sweeping p (p .frames) (p .hand)
@@ -63,15 +63,15 @@ start p sound some = record {
   below = home-free p some .0;
   free = home-free p some .1;
   fuel = p .settings .frames * (p .settings .cap + 1);
-  enough = left-few p (home p) sound (home-free p some .0);
+  enough = to-go-few p (home p) sound (home-free p some .0);
   same = refl;
 }
 
 module _ (p : Pool) (fs : List Frame) (h : ℕ) (s : Sweeping p fs h) where
-  falls : rests (frameAt fs h) ≡ false → suc (left (p .settings .frames) (home p) (passed fs h) (nextHand (p .settings .frames) h)) ≡ left (p .settings .frames) (home p) fs h
-  falls r = left-falls (p .settings .frames) (home p) (s .below) fs h (s .on) (s .free) r
+  falls : rests (frameAt fs h) ≡ false → suc (toGo (p .settings .frames) (home p) (passed fs h) (nextHand (p .settings .frames) h)) ≡ toGo (p .settings .frames) (home p) fs h
+  falls r = to-go-falls (p .settings .frames) (home p) (s .below) fs h (s .on) (s .free) r
 
-  turn′ : rests (frameAt fs h) ≡ false → (n : ℕ) → left (p .settings .frames) (home p) fs h < n → sweepFrom n (p .settings .frames) h fs ≡ sweepOf p → Sweeping p (passed fs h) (nextHand (p .settings .frames) h)
+  turn′ : rests (frameAt fs h) ≡ false → (n : ℕ) → toGo (p .settings .frames) (home p) fs h < n → sweepFrom n (p .settings .frames) h fs ≡ sweepOf p → Sweeping p (passed fs h) (nextHand (p .settings .frames) h)
   turn′ r zero l e = absurd (omega arith)
   turn′ r (suc n) l e = record {
     on = next-below (p .settings .frames) h (s .on);
@@ -92,10 +92,10 @@ module _ (p : Pool) (fs : List Frame) (h : ℕ) (s : Sweeping p fs h) where
   turn fr n gs k e r m d q = rw (passes fr n gs e m d, q) (turn′ (rw e at r) (s .fuel) (s .enough) (s .same))
 
   pub less : (fr : Frame) (n : ℕ) (gs : List Frame) (k : ℕ) → fr ≡ frameAt fs h → rests fr ≡ false → n ≡ passedCount fr → gs ≡ set fs h (withCount (frameAt fs h) n)
-      → k ≡ nextHand (p .settings .frames) h → left (p .settings .frames) (home p) gs k < left (p .settings .frames) (home p) fs h
+      → k ≡ nextHand (p .settings .frames) h → toGo (p .settings .frames) (home p) gs k < toGo (p .settings .frames) (home p) fs h
   less fr n gs k e r m d q = rw (passes fr n gs e m d, q) (let l = falls (rw e at r) in omega arith)
 
-  stopped : rests (frameAt fs h) ≡ true → (n : ℕ) → left (p .settings .frames) (home p) fs h < n → sweepFrom n (p .settings .frames) h fs ≡ sweepOf p → (h, fs) ≡ sweepOf p
+  stopped : rests (frameAt fs h) ≡ true → (n : ℕ) → toGo (p .settings .frames) (home p) fs h < n → sweepFrom n (p .settings .frames) h fs ≡ sweepOf p → (h, fs) ≡ sweepOf p
   stopped r zero l e = absurd (omega arith)
   stopped r (suc n) l e = sym (sweep-stop n (p .settings .frames) h fs r) ∙ e
 

@@ -16,8 +16,8 @@ use Rattle.pool.specs.Pool.{frameAt, nowOf}
 use Rattle.pool.proofs.Sound.{Sound}
 use Rattle.pool.proofs.Quiet.{Quiet, sound-quiet}
 use Rattle.victim.specs.Choice.{unpinned, leftBy}
-use Rattle.victim.specs.Watt.{valueAt, lessValue, leastValue, drawnFrame, wattVictim, wattChoice}
-use Rattle.victim.proofs.watt.Values.{from-order}
+use Rattle.victim.specs.Watt.{valueAt, lessValue, leastValue, drawnFrame, wattVictim, wattChoice, wattRule}
+use Rattle.victim.proofs.watt.Values.{value-ordered}
 use Rattle.victim.proofs.Owed.{AllPinned, repagedPool, repagedChoice, EmptyStays, frame-repaged, lowered-same, quiet-of, Owes}
 
 -- it does not look at page numbers; this stands first, so that an order that looks at them is refused here
@@ -78,9 +78,9 @@ module _ (p : Pool) where
       (λ _ e. let s = found-by (λ _. true) v e in (s .0, s .2))
 
   -- it finds none exactly where every frame below f is pinned
-  pub watt-none : (wattChoice p .found ≡ Nothing → AllPinned p) × (AllPinned p → wattChoice p .found ≡ Nothing)
+  pub watt-serves : (wattChoice p .found ≡ Nothing → AllPinned p) × (AllPinned p → wattChoice p .found ≡ Nothing)
   unfolding wattChoice
-  watt-none = (
+  watt-serves = (
     victim-cases (λ r. r ≡ Nothing → AllPinned p)
         (λ v _ e. absurd (one-or-none v e))
         (λ _ e i l. none-by (λ _. true) i e l refl),
@@ -106,8 +106,7 @@ module _ (p : Pool) where
 
   -- by value is an order
   pub watt-order : Order (lessValue p)
-  unfolding valueAt
-  watt-order = from-order (p .frames) (p .access) (p .write) (p .settings .weight) (nowOf p)
+  watt-order = value-ordered p
 
   least-by : (counts : ℕ → Bool) (v j : ℕ) → leastValue p counts ≡ At v → j < p .settings .frames → counts j ≡ true → unpinned (p .frames) j ≡ true
       → ahead (valueAt p) j v ≡ false
@@ -145,15 +144,18 @@ pub watt-still : (p : Pool) → wattChoice p .found ≡ Nothing → leftBy p (wa
 unfolding wattChoice
 watt-still p h = rw h
 
-pub watt-owes : Owes wattChoice
+watt-sorts : (new : Bool → ℕ → ℕ) → EmptyStays new → (p : Pool) (i j : ℕ) → lessValue (repagedPool new p) i j ≡ lessValue p i j
+watt-sorts new stays p i j = rw (value-repaged new stays p i, value-repaged new stays p j)
+
+pub watt-owes : Owes wattRule
 unfolding wattChoice
 watt-owes = record {
   unpinned = λ p v _. watt-unpinned p v;
-  none = watt-none;
   still = watt-still;
   lowers = λ p i. lowered-same (frameAt (p .frames) i);
   long = λ p. refl;
   quiet = watt-quiet;
   sound = watt-sound;
   pages = watt-pages;
+  sorts = watt-sorts;
 }

@@ -2,6 +2,7 @@ use Prim.Native.Nat.{_-_, _≤_}
 use mathlib.Core.Path.{_≡_, refl}
 use native.Mathlib.Omega.{arith}
 use borrow.Author.Needs.{needs}
+use Rattle.limit.specs.Limits.{referenceLimit}
 use Rattle.worth.specs.Value.{worthOf}
 use Rattle.worth.specs.Sizes.{Small}
 use Rattle.worth.proofs.Sizes.{small, age-small, part-small, worth-small, worth-turn}
@@ -25,7 +26,7 @@ greater-requires c κs =
     let h = s .pre .2 in
     let l = s .pre .1 in
     let v = r .inv in
-    let young : c .before .age .result ≤ 50000 = rw (c .before .age .ensures) (age-small _ _ h) in
+    let young : c .before .age .result ≤ referenceLimit = rw (c .before .age .ensures) (age-small _ _ h) in
     let best : Small (r .best) = rw (v .1) (small _ (worth-small _ _ _ _ (omega arith) h)) in
     let next : Small (c .part .result) =
     rw (c .part .ensures) (small _ (part-small (r .j) (c .before .age .result) (omega arith) young)) in

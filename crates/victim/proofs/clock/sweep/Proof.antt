@@ -2,7 +2,7 @@ use mathlib.Core.Path.{_≡_, refl, sym, _∙_}
 use native.Mathlib.Omega.{arith}
 use Rattle.pool.proofs.Sound.{told}
 use Rattle.table.specs.Table.{framesIn, poolIn}
-use Rattle.victim.proofs.clock.Falling.{left, next-below}
+use Rattle.victim.proofs.clock.Falling.{toGo, next-below}
 use Rattle.victim.proofs.clock.Sweeping.{home, Sweeping, start, turn, less, end}
 use borrow.Author.Needs.{needs}
 use Rattle.victim.proofs.clock.sweep.Statement.{statement}
@@ -12,7 +12,7 @@ abbrev Inv-loop : tie.InvT-loop
 Inv-loop h table₀ access write f at₀ table at = Sweeping (poolIn h table₀ access write) (framesIn table) at × (f ≡ h .settings .frames)
 
 abbrev μ-loop : tie.MeasureT-loop
-μ-loop h table₀ access write f at₀ table at = left (h .settings .frames) (home (poolIn h table₀ access write)) (framesIn table) at
+μ-loop h table₀ access write f at₀ table at = toGo (h .settings .frames) (home (poolIn h table₀ access write)) (framesIn table) at
 
 loop-holds : tie.Need-loop-holds Inv-loop μ-loop
 loop-holds c = let pre = c .before .before .pre in (start _ (told _ (pre .0)) (pre .1), refl)

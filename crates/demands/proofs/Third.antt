@@ -1,0 +1,78 @@
+-- The third demand holds.
+use mathlib.Core.Path.{_≡_, refl, ap, sym, subst, _∙_}
+use mathlib.Core.Bool.{true}
+use mathlib.Core.List.{List, [], _++_, append-nil}
+use Prim.Native.Nat.{ℕ, _<_}
+use lib.ListN.{length, getD}
+use Rattle.word.specs.declared.Order.{Order}
+use Rattle.word.proofs.Laws.{bytes-of}
+use Rattle.settings.specs.declared.Settings.{Settings}
+use Rattle.settings.specs.Settings.{inRange}
+use Rattle.trace.specs.Layout.{Trace}
+use Rattle.trace.specs.Check.{refusalOf, traceOf}
+use Rattle.trace.proofs.Accept.{accepted}
+use Rattle.trace.proofs.Whole.{proper}
+use Rattle.pool.specs.declared.Pool.{Pool}
+use Rattle.pool.specs.Pool.{freshPool}
+use Rattle.pool.proofs.Sound.{made}
+use Rattle.pool.proofs.Opening.{empty-sound}
+use Rattle.tally.specs.Tally.{zeroTally}
+use Rattle.replay.specs.Replay.{Played, replayOf}
+use Rattle.host.specs.Counts.{countBytes, freshCounts, hostRefusal}
+use Rattle.rename.specs.Renamed.{renamedPool, renamedBytes}
+use Rattle.rename.specs.Sameness.{residentPages, Renames, Given, OnlySameness}
+use Rattle.rename.proofs.Sameness.{only-sameness}
+use Rattle.rename.proofs.Calls.{replay-alike, counts-alike}
+use Rattle.rename.proofs.Steps.{step-alike}
+use Rattle.demands.specs.Third.{SameCounts, ThirdDemand}
+
+-- a fresh pool holds no page, and renamed it is the same
+no-pages : (x : Settings) → residentPages (freshPool x .frames) ≡ []
+unfolding residentPages freshPool
+no-pages x = refl
+
+fresh-renamed : (ρ : ℕ → ℕ) (x : Settings) → renamedPool ρ (freshPool x) ≡ freshPool x
+unfolding freshPool
+fresh-renamed ρ x = refl
+
+fresh-given : (x : Settings) (s : List ℕ) → inRange x ≡ true → ((i : ℕ) → getD s i 0 < 256) → refusalOf s ≡ 0 → Given (freshPool x) s
+unfolding freshPool
+fresh-given x s r bytes z = record { stored = record { bytes = bytes; frames = refl; access = refl; write = refl }; sound = made (freshPool x) (empty-sound x r); accepted = z }
+
+module _ (ρ : ℕ → ℕ) (s : List ℕ) (bytes : (i : ℕ) → getD s i 0 < 256) (z : refusalOf s ≡ 0) (names : Renames ρ (traceOf s .pages)) (o : Order) where
+  abbrev settings : Settings
+  settings = traceOf s .settings
+
+  alike : OnlySameness ρ (freshPool settings) zeroTally s
+  alike =
+      only-sameness ρ (freshPool settings) zeroTally s (fresh-given settings s (proper s (bytes-of s bytes) z .range) bytes z)
+      (subst (Renames ρ) (sym (ap (λ (l : List ℕ). traceOf s .pages ++ l) (no-pages settings) ∙ append-nil (traceOf s .pages))) names)
+
+  same-settings : traceOf (renamedBytes ρ o s) .settings ≡ settings
+  same-settings = ap (λ (t : Trace). t .settings) (alike .read o)
+
+  same-counts : freshCounts (traceOf (renamedBytes ρ o s)) ≡ freshCounts (traceOf s)
+  unfolding freshCounts
+  same-counts =
+      ap (λ (p : Pool). replayOf p zeroTally (traceOf (renamedBytes ρ o s)) .tally) (ap freshPool same-settings ∙ sym (fresh-renamed ρ settings))
+      ∙ ap (λ (r : Played). r .tally) (alike .replayed o)
+
+  same-refusal : (room : ℕ) → hostRefusal (renamedBytes ρ o s) room ≡ hostRefusal s room
+  unfolding hostRefusal
+  same-refusal room = rw (accepted (renamedBytes ρ o s) _ (alike .accepted o) .0, z)
+
+  same-bytes : o ≡ traceOf s .order → countBytes (traceOf (renamedBytes ρ o s) .order) (freshCounts (traceOf (renamedBytes ρ o s))) ≡ countBytes (traceOf s .order) (freshCounts (traceOf s))
+  same-bytes own =
+      ap (λ (u : Order). countBytes u (freshCounts (traceOf (renamedBytes ρ o s)))) (ap (λ (t : Trace). t .order) (alike .read o) ∙ own)
+      ∙ ap (countBytes (traceOf s .order)) same-counts
+
+  transport : SameCounts ρ s o
+  transport = record {
+    counts = same-counts;
+    answer = λ out r r′ out₁ out₂ x y. y .answers ∙ same-refusal (length out) ∙ sym (x .answers);
+    stored = λ out r r′ out₁ out₂ x y own. y .out-holds ∙ rw (same-refusal (length out), same-bytes own) (sym (x .out-holds));
+  }
+
+-- the theorem
+pub third-demand : ThirdDemand
+third-demand = record { replays = only-sameness; replay = replay-alike; counts = counts-alike; step = step-alike; transport = transport }

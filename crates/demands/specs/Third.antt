@@ -1,0 +1,30 @@
+-- The third demand: "Only sameness of page numbers counts: renaming pages one-to-one renames the answer and changes nothing else, under every rule."
+use Prim.Native.Nat.{ℕ, _<_}
+use mathlib.Core.Path.{_≡_}
+use mathlib.Core.List.{List}
+use lib.ListN.{getD}
+use Rattle.word.specs.declared.Order.{Order}
+use Rattle.trace.specs.Check.{refusalOf, traceOf}
+use Rattle.host.specs.Counts.{freshCounts, CountsInto}
+use Rattle.rename.specs.Renamed.{renamedBytes}
+use Rattle.rename.specs.Sameness.{Renames, Demand}
+use Rattle.rename.specs.Calls.{ReplayDemand, CountsDemand, StepDemand}
+
+-- from a fresh pool: the six counts stay as they were, and `hitchyawl_counts` answers the renamed bytes, written in an order, as it does the bytes given;
+-- written in their own order, they have the same bytes stored
+pub record SameCounts (ρ : ℕ → ℕ) (s : List ℕ) (o : Order) : Type 0 where
+  pub counts : freshCounts (traceOf (renamedBytes ρ o s)) ≡ freshCounts (traceOf s)
+  pub answer : (out : List ℕ) (r r′ : ℕ) (out₁ out₂ : List ℕ) → CountsInto s out r out₁ → CountsInto (renamedBytes ρ o s) out r′ out₂ → r′ ≡ r
+  pub stored : (out : List ℕ) (r r′ : ℕ) (out₁ out₂ : List ℕ) → CountsInto s out r out₁ → CountsInto (renamedBytes ρ o s) out r′ out₂ → o ≡ traceOf s .order → out₂ ≡ out₁
+
+-- a fresh pool has no pages: of an accepted trace, with ρ one-to-one on its pages; bytes are below 256
+abbrev pub FreshDemand : Type 0
+FreshDemand = (ρ : ℕ → ℕ) (s : List ℕ) → ((i : ℕ) → getD s i 0 < 256) → refusalOf s ≡ 0 → Renames ρ (traceOf s .pages) → (o : Order) → SameCounts ρ s o
+
+-- the demand: of the definition of a replay, of the calls by their contracts, and of the transport's counts
+pub record ThirdDemand : Type 0 where
+  pub replays : Demand
+  pub replay : ReplayDemand
+  pub counts : CountsDemand
+  pub step : StepDemand
+  pub transport : FreshDemand

@@ -1,0 +1,1 @@
+// The three demands, and the dozen worked by hand, each on a page of its own, over the definitions of the contracts. No code.
