@@ -1,0 +1,5 @@
+pub mod Laws
+pub mod Filling
+pub mod Decimal
+pub mod Storing
+pub mod Round

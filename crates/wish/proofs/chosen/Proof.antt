@@ -1,0 +1,12 @@
+use borrow.Author.Needs.{needs}
+use Rattle.wish.proofs.chosen.Statement.{statement}
+use Rattle.wish.proofs.chosen.Tie as tie
+
+returns : tie.Need-returns
+returns c = rw (c .before .if1 .taken)
+
+returns-2 : tie.Need-returns-2
+returns-2 c = rw (c .if1 .left)
+
+pub chosen-spec : {M : Type 1} → statement M
+chosen-spec = tie.close (tie.spec (λ c. search needs) (λ c. search needs) (λ c. search needs) returns returns-2)
