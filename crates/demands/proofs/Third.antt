@@ -18,7 +18,8 @@ use Rattle.pool.proofs.Sound.{made}
 use Rattle.pool.proofs.Opening.{empty-sound}
 use Rattle.tally.specs.Tally.{zeroTally}
 use Rattle.replay.specs.Replay.{Played, replayOf}
-use Rattle.host.specs.Counts.{countBytes, freshCounts, hostRefusal}
+use Rattle.fresh.specs.Fresh.{freshCounts}
+use Rattle.host.specs.Counts.{countBytes, hostRefusal}
 use Rattle.rename.specs.Renamed.{renamedPool, renamedBytes}
 use Rattle.rename.specs.Sameness.{residentPages, Renames, Given, OnlySameness}
 use Rattle.rename.proofs.Sameness.{only-sameness}

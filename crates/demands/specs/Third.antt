@@ -5,7 +5,8 @@ use mathlib.Core.List.{List}
 use lib.ListN.{getD}
 use Rattle.word.specs.declared.Order.{Order}
 use Rattle.trace.specs.Check.{refusalOf, traceOf}
-use Rattle.host.specs.Counts.{freshCounts, CountsInto}
+use Rattle.fresh.specs.Fresh.{freshCounts}
+use Rattle.host.specs.Counts.{CountsInto}
 use Rattle.rename.specs.Renamed.{renamedBytes}
 use Rattle.rename.specs.Sameness.{Renames, Demand}
 use Rattle.rename.specs.Calls.{ReplayDemand, CountsDemand, StepDemand}

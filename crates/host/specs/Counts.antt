@@ -7,12 +7,10 @@ use lib.Dec.{leb}
 use Rattle.word.specs.declared.Order.{Order}
 use Rattle.word.specs.Number.{bytesOf}
 use Rattle.refusal.specs.Refusals.{demand, orElse, stored, noRoom}
-use Rattle.trace.specs.Layout.{Trace}
 use Rattle.trace.specs.Check.{refusalOf, traceOf}
-use Rattle.pool.specs.Pool.{freshPool}
 use Rattle.tally.specs.declared.Tally.{Tally}
 use Rattle.tally.specs.Tally.{numbersOf, zeroTally}
-use Rattle.replay.specs.Replay.{replayOf}
+use Rattle.fresh.specs.Fresh.{freshCounts}
 
 -- "the transport's counts 24 bytes": 4 for each
 abbrev pub countsLength : ℕ
@@ -26,10 +24,6 @@ wordsOf o (n ∷ l) = bytesOf o 4 n ++ wordsOf o l
 -- "the six counts, 4 bytes each and in the order above"
 unfoldable pub countBytes : Order → Tally → List ℕ
 countBytes o t = wordsOf o (numbersOf t)
-
--- replay to counts from a fresh pool and zero tally
-unfoldable pub freshCounts : Trace → Tally
-freshCounts trace = replayOf (freshPool (trace .settings)) zeroTally trace .tally
 
 -- the trace's refusals, then 13
 unfoldable pub hostRefusal : List ℕ → ℕ → ℕ

@@ -5,8 +5,7 @@ ghost use Rattle.scribe.specs.Write.{ConvertedTo, ConvertsBack};
 ghost use Prim.Native.Nat.{_≤_};
 ghost use lib.ListN.{length};
 ghost use lib.Seq.{sets};
-ghost use Rattle.trace.specs.Check.{traceOf};
-ghost use Rattle.host.specs.Counts.{countsLength, countBytes, freshCounts, CountsInto};
+ghost use Rattle.host.specs.Counts.{countsLength, countBytes, CountsInto};
 use tally::Tally;
 use trace::Checked;
 use trace::Summary;
@@ -49,21 +48,6 @@ fn put_tally(out: &mut [u8], order: Order, t: Tally)
     }
 }
 
-// The counts of an accepted trace from a fresh pool, which is sound: neither is checked again. With no record no pool is made.
-fn fresh_counts(bytes: &[u8], summary: Summary) -> Tally
-    requires { ⌜ checkOf (now bytes) ≡ Checked.Accepted summary ⌝ }
-    ensures { λ r. ⌜ r ≡ freshCounts (traceOf (now (bytes .entry))) ⌝ }
-{
-    if summary.count == 0 {
-        return tally::zero();
-    }
-    let settings = summary.settings;
-    let opened = pool::fresh(settings);
-    let fresh = opened.pool;
-    let ended = replay::count(fresh, tally::zero(), bytes, summary);
-    ended.tally
-}
-
 fn counts_accepted(bytes: &[u8], summary: Summary, out: &mut [u8]) -> u32
     requires { ⌜ checkOf (now bytes) ≡ Checked.Accepted summary ⌝ }
     ensures { λ r. ⌜ CountsInto (now (bytes .entry)) (now (out .entry)) r (now (out .exit)) ⌝ }
@@ -72,7 +56,7 @@ fn counts_accepted(bytes: &[u8], summary: Summary, out: &mut [u8]) -> u32
         return refusal::NO_ROOM;
     }
     let order = summary.order;
-    let t = fresh_counts(bytes, summary);
+    let t = fresh::counts(bytes, summary);
     put_tally(out, order, t);
     0
 }

@@ -61,3 +61,11 @@ pub as-many : (line : Line) → length (pageOf line) ≡ length (kindOf line)
 as-many Passed = refl
 as-many (Record kind page) = refl
 as-many Bad = refl
+
+pub numbers-many : (lines : List Line) → length (numbersIn pageOf lines) ≡ length (numbersIn kindOf lines)
+unfolding numbersIn
+numbers-many [] = refl
+numbers-many (line ∷ lines) =
+    let rest = numbers-many lines in
+    let one = as-many line in
+    length-append (pageOf line) (numbersIn pageOf lines) ∙ rw (one, rest) (sym (length-append (kindOf line) (numbersIn kindOf lines)))

@@ -10,6 +10,7 @@ use lib.Seq.{sets}
 use borrow.Author.Tests.{le-leb, lt-leb}
 use Rattle.word.proofs.Laws.{sets-append}
 use Rattle.refusal.specs.Refusals.{noRoom}
+use Rattle.trace.specs.Layout.{Trace}
 use Rattle.trace.specs.declared.Summary.{Summary}
 use Rattle.trace.specs.declared.Checked.the-variants.{Accepted, Refused}
 use Rattle.trace.specs.Check.{refusalOf, checkOf, traceOf}
@@ -88,3 +89,20 @@ module _ (s out : List ℕ) where
         let c = counts-are s h e .0 in
         let t : lineRoom * length (traceOf s .pages) ≤ length out = rw c l in
         record { answers = rw (accepted s h e .0, le-leb _ _ t, w); bytes-hold = o ∙ rw (accepted s h e .0, le-leb _ _ t) }
+
+-- a text is no longer than the longest line for each record
+to-long : (pages kinds : List ℕ) (i : ℕ) → length (textTo pages kinds i) ≤ lineRoom * i
+unfolding textTo
+to-long pages kinds zero = omega arith
+to-long pages kinds (suc i) =
+    let rest = to-long pages kinds i in
+    let page = getD pages i 0 in
+    let kind = getD kinds i 0 in
+    let long = line-long kind page in
+    let short = word-short kind in
+    let few = decimal-few page in
+    rw (length-append (textTo pages kinds i) (lineText kind page)) (omega arith)
+
+pub text-long : (t : Trace) → length (textOf t) ≤ lineRoom * length (t .pages)
+unfolding textOf
+text-long t = to-long (t .pages) (t .kinds) (length (t .pages))

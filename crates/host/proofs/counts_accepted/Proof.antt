@@ -8,7 +8,7 @@ returns-2 c =
     let p = c .before .before in
     let t = p .before .before in
     let i = t .before in
-    host-counted _ _ _ (i .before .before .before .pre) _ _ (i .if1 .left) (t .fresh-counts .ensures) (p .put-tally .ensures)
+    host-counted _ _ _ (i .before .before .before .pre) _ _ (i .if1 .left) (t .counts .ensures) (p .put-tally .ensures)
 
 pub counts-accepted-spec : {M : Type 1} → statement M
 counts-accepted-spec =

@@ -1,7 +1,7 @@
-use Rattle.host.proofs.Laws.{fresh-ready, fresh-counts-are, none-counted}
+use Rattle.fresh.proofs.Laws.{fresh-ready, fresh-counts-are, none-counted}
 use borrow.Author.Needs.{needs}
-use Rattle.host.proofs.fresh_counts.Statement.{statement}
-use Rattle.host.proofs.fresh_counts.Tie as tie
+use Rattle.fresh.proofs.counts.Statement.{statement}
+use Rattle.fresh.proofs.counts.Tie as tie
 
 returns : tie.Need-returns
 returns c =
@@ -20,5 +20,5 @@ returns-2 c =
     let f = z .before .before in
     fresh-counts-are _ _ _ _ (f .before .before .before .before .before .pre) (f .fresh .ensures) (z .zero2 .ensures) _ (n .count .ensures)
 
-pub fresh-counts-spec : {M : Type 1} → statement M
-fresh-counts-spec = tie.close (tie.spec (λ c κs. search needs) returns (λ c κs. search needs) (λ c κs. search needs) count-requires returns-2)
+pub counts-spec : {M : Type 1} → statement M
+counts-spec = tie.close (tie.spec (λ c κs. search needs) returns (λ c κs. search needs) (λ c κs. search needs) count-requires returns-2)

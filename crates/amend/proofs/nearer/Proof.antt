@@ -1,0 +1,15 @@
+use Rattle.amend.specs.Quote.{nearerOf}
+use borrow.Author.Needs.{needs}
+use Rattle.amend.proofs.nearer.Statement.{statement}
+use Rattle.amend.proofs.nearer.Tie as tie
+
+returns : tie.Need-returns
+unfolding nearerOf
+returns c = rw (c .if1 .taken)
+
+returns-2 : tie.Need-returns-2
+unfolding nearerOf
+returns-2 c = rw (c .if1 .left)
+
+pub nearer-spec : {M : Type 1} → statement M
+nearer-spec = tie.close (tie.spec returns returns-2)
