@@ -1,7 +1,5 @@
 // Replays a trace on standard input to counts from a fresh pool, and prints the sheet, or `trace refused N`.
-use lines::say_line;
 use lines::say_refused;
-use listing::say_policy;
 use trace::Checked;
 use trace::Summary;
 
@@ -10,10 +8,7 @@ fn say_sheet(summary: Summary, bytes: &[u8]) {
     let settings = summary.settings;
     let opened = pool::fresh(settings);
     let ended = replay::counts(opened.pool, tally::zero(), bytes);
-    say_policy(settings.rule);
-    say_line(b"frames", settings.frames as u64);
-    say_line(b"records", summary.count as u64);
-    listing::say_counts(ended.tally);
+    listing::say_sheet(settings, summary.count, ended.tally);
 }
 
 fn bench(bytes: &[u8]) {

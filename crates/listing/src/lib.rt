@@ -1,4 +1,5 @@
-// The listing of a replay: its rows, the pages that it wrote, the pool that it left, and the counts.
+// What is printed of a trace and of its replay: the trace's settings and counts; the sheet; and the listing, its rows, the
+// pages that were written, the pool that is left, and the counts.
 ghost use Prim.Native.Nat.{_+_, _<_, _≤_};
 ghost use lib.ListN.{length};
 ghost use mathlib.Core.Path.{_≡_};
@@ -11,6 +12,7 @@ use lines::say_bool;
 use lines::say_first;
 use lines::say_line;
 use lines::say_number;
+use lines::say_order;
 use lines::say_places;
 use lines::say_refused;
 use lines::say_table;
@@ -20,6 +22,7 @@ use replay::Ended;
 use settings::Settings;
 use tally::Tally;
 use trace::Checked;
+use trace::Summary;
 
 // Four numbers for each record of the longest trace.
 const ROWS: usize = 4 * trace::RECORD_LIMIT;
@@ -139,7 +142,7 @@ fn say_letters(letters: [u8; 16], n: usize)
 }
 
 // The line of a rule's name.
-pub fn say_policy(rule: u16) {
+fn say_policy(rule: u16) {
     let name = victim::name_of(rule);
     let letters = name.bytes;
     say(b"policy ");
@@ -159,12 +162,57 @@ fn say_count(i: usize, n: u64) {
     }
 }
 
-pub fn say_counts(t: Tally) {
+fn say_counts(t: Tally) {
     let l = tally::numbers(t);
     let mut i: usize = 0;
     while i < tally::COUNTS {
         say_count(i, l[i] as u64);
         i += 1;
+    }
+}
+
+// The sheet of a replay to counts.
+pub fn say_sheet(settings: Settings, records: u32, tally: Tally) {
+    say_policy(settings.rule);
+    say_line(b"frames", settings.frames as u64);
+    say_line(b"records", records as u64);
+    say_counts(tally);
+}
+
+fn say_settings(s: Settings) {
+    say_policy(s.rule);
+    say_line(b"frames", s.frames as u64);
+    say_line(b"batch", s.batch as u64);
+    say_line(b"cap", s.cap as u64);
+    say_line(b"sample", s.sample as u64);
+    say_line(b"weight", s.weight as u64);
+    say_line(b"epoch", s.span as u64);
+    say_line(b"seed", s.seed as u64);
+}
+
+fn say_summary(summary: Summary, writes: u32) {
+    let order = summary.order;
+    say(b"order");
+    say_order(order);
+    say(b"\n");
+    let settings = summary.settings;
+    say_settings(settings);
+    say_line(b"records", summary.count as u64);
+    say_line(b"writes", writes as u64);
+}
+
+// Prints what a trace is, or that it is refused, and answers the refusal or 0.
+pub fn inspect(bytes: &[u8]) -> u32 {
+    let c = trace::check(bytes);
+    match c {
+        Checked::Refused(r) => {
+            say_refused(r);
+            r
+        }
+        Checked::Accepted(summary) => {
+            say_summary(summary, trace::writes(bytes, summary));
+            0
+        }
     }
 }
 

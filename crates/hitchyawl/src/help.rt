@@ -1,0 +1,163 @@
+// What the program says of itself: on standard output where it is asked to, on standard error where the words are wrong.
+use crate::names;
+use crate::names::Command;
+
+fn put(fd: i32, text: &[u8]) {
+    io::write_all(fd, text);
+}
+
+fn put_commands(fd: i32) {
+    put(
+        fd,
+        b"usage: hitchyawl COMMAND [OPTIONS] FILES\n\
+        \n  check [TRACE]                whether the trace is accepted\
+        \n  inspect [TRACE]              its order, its settings, and how many records and writes it has\
+        \n  convert TRACE OUT            writes it in the other byte order\
+        \n  set [SETTINGS] TRACE OUT     writes it with other settings\
+        \n  export [TRACE]               prints a line for each record\
+        \n  import [SETTINGS] [--order high|low] TEXT OUT\
+        \n                               writes the trace of such lines\
+        \n  bench [SETTINGS] [TRACE]     replays it and prints the sheet\
+        \n  rows [SETTINGS] [TRACE]      replays it and prints the listing\
+        \n  quote [SETTINGS] [TRACE]     misses and pages written by each rule at each size\n\
+        \n`hitchyawl COMMAND --help` says more of a command.\n",
+    );
+}
+
+// How a command is called; without one, how each is.
+fn put_usage(fd: i32, command: Command) {
+    match command {
+        Command::Check => put(fd, b"usage: hitchyawl check [TRACE]\n"),
+        Command::Inspect => put(fd, b"usage: hitchyawl inspect [TRACE]\n"),
+        Command::Convert => put(fd, b"usage: hitchyawl convert TRACE OUT\n"),
+        Command::Set => put(fd, b"usage: hitchyawl set [SETTINGS] TRACE OUT\n"),
+        Command::Export => put(fd, b"usage: hitchyawl export [TRACE]\n"),
+        Command::Import => put(
+            fd,
+            b"usage: hitchyawl import [SETTINGS] [--order high|low] TEXT OUT\n",
+        ),
+        Command::Bench => put(fd, b"usage: hitchyawl bench [SETTINGS] [TRACE]\n"),
+        Command::Rows => put(fd, b"usage: hitchyawl rows [SETTINGS] [TRACE]\n"),
+        Command::Quote => put(fd, b"usage: hitchyawl quote [SETTINGS] [TRACE]\n"),
+        Command::Unknown => put_commands(fd),
+    }
+}
+
+fn put_import(fd: i32) {
+    put(
+        fd,
+        b"\nWrites the trace of a text. A line is `read`, `write`, `pin` or `unpin`, one space and a page\n\
+        below 4294967296; empty lines and those that begin with # are passed over. Prints\n\
+        `line N refused` for the first line that is bad.\n\
+        \n  --order high|low     which byte of a number comes first in the trace: high, if not given\n\
+        \nSettings that are not given: lru, 64 frames, batch 8, cap 5, sample 8, weight 2, epoch 100,\n\
+        seed 1.\n",
+    );
+}
+
+fn put_rows(fd: i32) {
+    put(
+        fd,
+        b"\nReplays the trace from a fresh pool and prints `rows` and a row for each record (outcome, frame,\n\
+        page that left, batch length), `written` and the pages written, `pool` and `frames`, the pool at\n\
+        the end, and the six counts.\n",
+    );
+}
+
+fn put_quote(fd: i32) {
+    put(
+        fd,
+        b"\nReplays the trace by each rule with 1, 2, 4, 8, 16, 32, 64, 128 and its own number of frames, and\n\
+        prints a line for each number: the frames, then the misses and pages written by lru, clock and\n\
+        watt.\n",
+    );
+}
+
+fn put_account(fd: i32, command: Command) {
+    match command {
+        Command::Check => put(fd, b"\nPrints `accepted`.\n"),
+        Command::Inspect => put(
+            fd,
+            b"\nPrints the byte order, the settings, and how many records and writes there are.\n",
+        ),
+        Command::Convert => put(fd, b"\nWrites the trace in the other byte order.\n"),
+        Command::Set => put(
+            fd,
+            b"\nWrites the same records with other settings. OUT may be TRACE.\n",
+        ),
+        Command::Export => put(
+            fd,
+            b"\nPrints a line for each record: `read 12`, `write 12`, `pin 12` or `unpin 12`.\n",
+        ),
+        Command::Import => put_import(fd),
+        Command::Bench => put(
+            fd,
+            b"\nReplays the trace from a fresh pool and prints the sheet: rule, frames, records and six counts.\n",
+        ),
+        Command::Rows => put_rows(fd),
+        Command::Quote => put_quote(fd),
+        Command::Unknown => put(
+            fd,
+            b"\nTRACE and TEXT are files to read, OUT is a file to write.\n",
+        ),
+    }
+}
+
+fn put_settings(fd: i32) {
+    put(
+        fd,
+        b"\nSETTINGS, instead of the trace's own:\
+        \n  --rule lru|clock|watt\
+        \n  --frames N     1 to 128, how many pages the pool has room for\
+        \n  --batch N      1 to 16, the most pages written when a dirty page leaves\
+        \n  --cap N        1 to 7, how high clock counts a page's hits\
+        \n  --sample N     1 to 16, how many draws watt makes for a victim\
+        \n  --weight N     0 to 16, how much writes add to a page's value in watt\
+        \n  --epoch N      1 to 50000, how many references make an epoch of watt\
+        \n  --seed N       what watt's draws follow from\n",
+    );
+}
+
+fn put_rest(fd: i32) {
+    put(
+        fd,
+        b"\nA file is a path, or - for standard input or output; without TRACE, standard input is read. After\n\
+        -- every word is a file. A bad trace or setting prints `trace refused N`.\n\
+        Exit status: 0 done, 1 refused, 2 wrong words, 3 a file that cannot be read or written.\n\
+        \nExample:\n",
+    );
+}
+
+fn put_example(fd: i32, command: Command) {
+    match command {
+        Command::Check => put(fd, b"  hitchyawl check day.trace\n"),
+        Command::Inspect => put(fd, b"  hitchyawl inspect day.trace\n"),
+        Command::Convert => put(fd, b"  hitchyawl convert day.trace other.trace\n"),
+        Command::Set => put(fd, b"  hitchyawl set --frames 32 day.trace less.trace\n"),
+        Command::Export => put(fd, b"  hitchyawl export day.trace > day.txt\n"),
+        Command::Import => put(
+            fd,
+            b"  hitchyawl import --rule clock --order low day.txt day.trace\n",
+        ),
+        Command::Bench => put(fd, b"  hitchyawl bench --rule watt --frames 32 day.trace\n"),
+        Command::Rows => put(fd, b"  hitchyawl rows --frames 32 day.trace\n"),
+        Command::Quote => put(fd, b"  hitchyawl quote --batch 4 day.trace\n"),
+        Command::Unknown => put(fd, b"  hitchyawl bench --frames 32 day.trace\n"),
+    }
+}
+
+pub fn say_help(command: Command) {
+    let fd = libc::STDOUT_FILENO;
+    let taken = names::taken_by(command);
+    put_usage(fd, command);
+    put_account(fd, command);
+    if taken.settings {
+        put_settings(fd);
+    }
+    put_rest(fd);
+    put_example(fd, command);
+}
+
+pub fn tell_usage(command: Command) {
+    put_usage(libc::STDERR_FILENO, command);
+}

@@ -1,0 +1,141 @@
+// The names of the commands and of their options, and what each command takes.
+use check::same;
+
+pub enum Command {
+    Check,
+    Inspect,
+    Convert,
+    Set,
+    Export,
+    Import,
+    Bench,
+    Rows,
+    Quote,
+    Unknown,
+}
+
+// What a word that begins with `-` is.
+pub enum Flag {
+    // A setting, by its place in a wish.
+    Setting(usize),
+    Order,
+    Help,
+    // No option follows it.
+    Last,
+    Unknown,
+}
+
+// How many files a command takes, and which options.
+pub struct Takes {
+    pub least: usize,
+    pub most: usize,
+    pub settings: bool,
+    pub order: bool,
+}
+
+// A text that says nothing else asks for help.
+pub fn is_help(word: &[u8]) -> bool {
+    same(word, b"--help")
+}
+
+pub fn command_named(word: &[u8]) -> Command {
+    if same(word, b"check") {
+        return Command::Check;
+    }
+    if same(word, b"inspect") {
+        return Command::Inspect;
+    }
+    if same(word, b"convert") {
+        return Command::Convert;
+    }
+    if same(word, b"set") {
+        return Command::Set;
+    }
+    if same(word, b"export") {
+        return Command::Export;
+    }
+    if same(word, b"import") {
+        return Command::Import;
+    }
+    if same(word, b"bench") {
+        return Command::Bench;
+    }
+    if same(word, b"rows") {
+        return Command::Rows;
+    }
+    if same(word, b"quote") {
+        return Command::Quote;
+    }
+    Command::Unknown
+}
+
+pub fn flag_named(word: &[u8]) -> Flag {
+    if same(word, b"--frames") {
+        return Flag::Setting(wish::FRAMES);
+    }
+    if same(word, b"--rule") {
+        return Flag::Setting(wish::RULE);
+    }
+    if same(word, b"--batch") {
+        return Flag::Setting(wish::BATCH);
+    }
+    if same(word, b"--cap") {
+        return Flag::Setting(wish::CAP);
+    }
+    if same(word, b"--sample") {
+        return Flag::Setting(wish::SAMPLE);
+    }
+    if same(word, b"--weight") {
+        return Flag::Setting(wish::WEIGHT);
+    }
+    if same(word, b"--epoch") {
+        return Flag::Setting(wish::EPOCH);
+    }
+    if same(word, b"--seed") {
+        return Flag::Setting(wish::SEED);
+    }
+    if same(word, b"--order") {
+        return Flag::Order;
+    }
+    if is_help(word) {
+        return Flag::Help;
+    }
+    if same(word, b"--") {
+        return Flag::Last;
+    }
+    Flag::Unknown
+}
+
+// A trace, or standard input where none is named.
+fn trace_alone(settings: bool) -> Takes {
+    Takes {
+        least: 0,
+        most: 1,
+        settings: settings,
+        order: false,
+    }
+}
+
+fn input_and_output(settings: bool, order: bool) -> Takes {
+    Takes {
+        least: 2,
+        most: 2,
+        settings: settings,
+        order: order,
+    }
+}
+
+pub fn taken_by(command: Command) -> Takes {
+    match command {
+        Command::Check => trace_alone(false),
+        Command::Inspect => trace_alone(false),
+        Command::Convert => input_and_output(false, false),
+        Command::Set => input_and_output(true, false),
+        Command::Export => trace_alone(false),
+        Command::Import => input_and_output(true, true),
+        Command::Bench => trace_alone(true),
+        Command::Rows => trace_alone(true),
+        Command::Quote => trace_alone(true),
+        Command::Unknown => trace_alone(false),
+    }
+}

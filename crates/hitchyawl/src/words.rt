@@ -1,0 +1,331 @@
+// The words that the program is started with, as what they ask for.
+use crate::files::front;
+use crate::files::tell;
+use crate::names;
+use crate::names::Command;
+use crate::names::Flag;
+use check::same;
+use numeral::Numeral;
+use wish::Wish;
+use word::Order;
+
+// No word that Linux hands over is longer where a page of memory has 4,096 bytes. Of a longer one the first bytes are taken.
+const WORD_LIMIT: usize = 131072;
+
+// How many rules have a name.
+const RULES: u16 = 3;
+
+// What is wrong with the words.
+pub enum Fault {
+    Nothing,
+    NoCommand,
+    UnknownCommand,
+    UnknownOption,
+    OptionNotTaken,
+    NoValue,
+    NoNumber,
+    NoRule,
+    NoOrder,
+    TooFewFiles,
+    TooManyFiles,
+}
+
+// Of a file its word's number is kept, and 0 where none is named.
+pub struct Request {
+    pub command: Command,
+    pub help: bool,
+    pub files: [usize; 2],
+    pub wish: Wish,
+    pub low_first: bool,
+    // How many files are named.
+    named: usize,
+    // Whether the options have ended.
+    ended: bool,
+    // The number of an option's word whose value is the next word, or 0; and the option.
+    waits: usize,
+    flag: Flag,
+    // The first fault, and the number of its word, or 0.
+    fault: Fault,
+    place: usize,
+}
+
+// A command with no words after it.
+fn bare(command: Command, help: bool) -> Request {
+    Request {
+        command: command,
+        help: help,
+        files: [0; 2],
+        wish: wish::none(),
+        low_first: false,
+        named: 0,
+        ended: false,
+        waits: 0,
+        flag: Flag::Unknown,
+        fault: Fault::Nothing,
+        place: 0,
+    }
+}
+
+// The same request but for the option that waits for its value, and the fault.
+fn renewed(r: Request, flag: Flag, fault: Fault, place: usize) -> Request {
+    let command = r.command;
+    let files = r.files;
+    let wish = r.wish;
+    Request {
+        command: command,
+        help: r.help,
+        files: files,
+        wish: wish,
+        low_first: r.low_first,
+        named: r.named,
+        ended: r.ended,
+        waits: r.waits,
+        flag: flag,
+        fault: fault,
+        place: place,
+    }
+}
+
+pub fn is_wrong(r: Request) -> bool {
+    let fault = r.fault;
+    match fault {
+        Fault::Nothing => false,
+        _ => true,
+    }
+}
+
+// A request with a fault; the first one counts.
+fn faulty(r: Request, fault: Fault, place: usize) -> Request {
+    if is_wrong(r) {
+        return r;
+    }
+    let flag = r.flag;
+    renewed(r, flag, fault, place)
+}
+
+// A request whose next word is an option's value. It is passed over where the command does not take the option.
+fn awaiting(r: Request, flag: Flag, i: usize, taken: bool) -> Request {
+    let fault = r.fault;
+    let mut next = renewed(r, flag, fault, r.place);
+    next.waits = i;
+    if taken {
+        return next;
+    }
+    faulty(next, Fault::OptionNotTaken, i)
+}
+
+fn with_flag(r: Request, flag: Flag, i: usize) -> Request {
+    let command = r.command;
+    let taken = names::taken_by(command);
+    let mut next = r;
+    match flag {
+        Flag::Setting(_) => awaiting(r, flag, i, taken.settings),
+        Flag::Order => awaiting(r, flag, i, taken.order),
+        Flag::Help => {
+            next.help = true;
+            next
+        }
+        Flag::Last => {
+            next.ended = true;
+            next
+        }
+        Flag::Unknown => faulty(r, Fault::UnknownOption, i),
+    }
+}
+
+// Places that no wish has are left alone: no option names one.
+fn with_wish(r: Request, place: usize, number: u64) -> Request {
+    let mut next = r;
+    if place < 8 {
+        let wish = wish::with(r.wish, place, number);
+        next.wish = wish;
+    }
+    next
+}
+
+fn is_rule(word: &[u8], rule: u16) -> bool {
+    let name = victim::name_of(rule);
+    let letters = name.bytes;
+    same(word, front(&letters, name.length))
+}
+
+// The rule of this name, or the number of rules where none has it.
+fn rule_named(word: &[u8]) -> u16 {
+    let mut rule: u16 = 0;
+    while rule < RULES {
+        if is_rule(word, rule) {
+            return rule;
+        }
+        rule += 1;
+    }
+    rule
+}
+
+fn with_rule(r: Request, i: usize, word: &[u8]) -> Request {
+    let rule = rule_named(word);
+    if rule < RULES {
+        return with_wish(r, wish::RULE, rule as u64);
+    }
+    faulty(r, Fault::NoRule, i)
+}
+
+fn with_setting(r: Request, place: usize, i: usize, word: &[u8]) -> Request {
+    if place == wish::RULE {
+        return with_rule(r, i, word);
+    }
+    let number = numeral::read(word);
+    match number {
+        Numeral::Number(n) => with_wish(r, place, n),
+        Numeral::NoNumber => faulty(r, Fault::NoNumber, i),
+    }
+}
+
+fn with_order(r: Request, i: usize, word: &[u8]) -> Request {
+    let mut next = r;
+    next.low_first = same(word, b"low");
+    if next.low_first | same(word, b"high") {
+        return next;
+    }
+    faulty(r, Fault::NoOrder, i)
+}
+
+fn with_value(r: Request, i: usize, word: &[u8]) -> Request {
+    let flag = r.flag;
+    let mut next = r;
+    next.waits = 0;
+    match flag {
+        Flag::Setting(place) => with_setting(next, place, i, word),
+        Flag::Order => with_order(next, i, word),
+        _ => next,
+    }
+}
+
+fn with_file(r: Request, i: usize) -> Request {
+    let mut next = r;
+    let named = r.named;
+    if named < 2 {
+        next.files[named] = i;
+        next.named = named + 1;
+        return next;
+    }
+    faulty(r, Fault::TooManyFiles, i)
+}
+
+// Whether a word is an option: `-` alone is a file.
+fn is_flag(word: &[u8]) -> bool {
+    if word.len() < 2 {
+        return false;
+    }
+    word[0] == b'-'
+}
+
+// Puts word i at the start of space and answers how long it is there.
+fn fetch(i: usize, space: &mut [u8]) -> usize {
+    let n = os::arg(i, space);
+    if os::errno() == libc::ENAMETOOLONG {
+        return space.len();
+    }
+    n
+}
+
+fn with_word(r: Request, i: usize) -> Request {
+    let mut space = [0u8; WORD_LIMIT];
+    let n = fetch(i, &mut space);
+    let word = front(&space, n);
+    if r.waits != 0 {
+        return with_value(r, i, word);
+    }
+    if r.ended | !is_flag(word) {
+        return with_file(r, i);
+    }
+    with_flag(r, names::flag_named(word), i)
+}
+
+// The faults that show once all words are read.
+fn whole(r: Request) -> Request {
+    let command = r.command;
+    let taken = names::taken_by(command);
+    if r.waits != 0 {
+        return faulty(r, Fault::NoValue, r.waits);
+    }
+    if r.named < taken.least {
+        return faulty(r, Fault::TooFewFiles, 0);
+    }
+    if taken.most < r.named {
+        let last = r.files[1];
+        return faulty(r, Fault::TooManyFiles, last);
+    }
+    r
+}
+
+fn with_rest(begun: Request) -> Request {
+    let count = os::arg_count();
+    let mut r = begun;
+    let mut i: usize = 2;
+    while i < count {
+        r = with_word(r, i);
+        i += 1;
+    }
+    whole(r)
+}
+
+fn first_fault() -> Fault {
+    if os::arg_count() < 2 {
+        return Fault::NoCommand;
+    }
+    Fault::UnknownCommand
+}
+
+// What the words ask for, or what is wrong with them.
+pub fn read() -> Request {
+    let mut space = [0u8; WORD_LIMIT];
+    let n = fetch(1, &mut space);
+    let word = front(&space, n);
+    let command = names::command_named(word);
+    let r = bare(command, names::is_help(word));
+    match command {
+        Command::Unknown => faulty(r, first_fault(), 1),
+        _ => with_rest(r),
+    }
+}
+
+pub fn order_of(r: Request) -> Order {
+    if r.low_first {
+        return Order::Low;
+    }
+    Order::High
+}
+
+// Writes the word of a fault, where it has one.
+fn tell_word(i: usize) {
+    let mut space = [0u8; WORD_LIMIT];
+    let n = fetch(i, &mut space);
+    if 0 < i {
+        tell(front(&space, n));
+        tell(b": ");
+    }
+}
+
+fn tell_reason(fault: Fault) {
+    match fault {
+        Fault::Nothing => tell(b"nothing is wrong\n"),
+        Fault::NoCommand => tell(b"no command is given\n"),
+        Fault::UnknownCommand => tell(b"no such command\n"),
+        Fault::UnknownOption => tell(b"no such option\n"),
+        Fault::OptionNotTaken => tell(b"not an option of this command\n"),
+        Fault::NoValue => tell(b"the option's value is missing\n"),
+        Fault::NoNumber => tell(b"not a number\n"),
+        Fault::NoRule => tell(b"no such rule\n"),
+        Fault::NoOrder => tell(b"no such order, high or low\n"),
+        Fault::TooFewFiles => tell(b"a file is missing\n"),
+        Fault::TooManyFiles => tell(b"one file too many\n"),
+    }
+}
+
+// The line that says what is wrong with the words.
+pub fn tell_fault(r: Request) {
+    let fault = r.fault;
+    tell(b"hitchyawl: ");
+    tell_word(r.place);
+    tell_reason(fault);
+}

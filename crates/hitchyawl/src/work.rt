@@ -1,0 +1,228 @@
+// What each command does, with a trace that is read for it.
+ghost use mathlib.Core.Path.{_≡_};
+ghost use lib.ListN.{length};
+use crate::files;
+use crate::files::Status;
+use crate::files::front;
+use crate::files::printed;
+use crate::names::Command;
+use crate::words;
+use crate::words::Request;
+use amend::Exported;
+use amend::Imported;
+use lines::say;
+use lines::say_first;
+use lines::say_number;
+use lines::say_refused;
+use tally::Tally;
+use trace::BYTE_LIMIT;
+use trace::Checked;
+use wish::Wish;
+
+// The longest text that is read.
+const TEXT_LIMIT: usize = 1048576;
+
+// A quote has a line for each of eight sizes and the trace's own.
+const QUOTE_LINES: u32 = 9;
+
+// A quote's rules are those from 0 on, so many.
+const QUOTE_RULES: u64 = 3;
+
+fn refused(refusal: u32) -> Status {
+    say_refused(refusal);
+    printed(Status::Refused)
+}
+
+// A call that prints has answered a refusal, which it printed, or 0.
+fn ended(refusal: u32) -> Status {
+    if refusal != 0 {
+        return printed(Status::Refused);
+    }
+    printed(Status::Done)
+}
+
+fn check(bytes: &[u8]) -> Status {
+    let c = trace::check(bytes);
+    match c {
+        Checked::Refused(r) => refused(r),
+        Checked::Accepted(_) => {
+            say(b"accepted\n");
+            printed(Status::Done)
+        }
+    }
+}
+
+fn inspect(bytes: &[u8]) -> Status {
+    ended(listing::inspect(bytes))
+}
+
+fn convert(bytes: &[u8], output: usize) -> Status {
+    let mut space = [0u8; BYTE_LIMIT];
+    let refusal = scribe::convert(bytes, &mut space);
+    if refusal != 0 {
+        return refused(refusal);
+    }
+    files::write(output, front(&space, bytes.len()))
+}
+
+fn set(bytes: &[u8], wish: Wish, output: usize) -> Status {
+    let mut space = [0u8; BYTE_LIMIT];
+    let refusal = amend::set(bytes, wish, &mut space);
+    if refusal != 0 {
+        return refused(refusal);
+    }
+    files::write(output, front(&space, bytes.len()))
+}
+
+fn export(bytes: &[u8]) -> Status {
+    let mut space = [0u8; amend::TEXT_LIMIT];
+    let exported = amend::export(bytes, &mut space);
+    match exported {
+        Exported::Refused(r) => refused(r),
+        Exported::Written(n) => {
+            say(front(&space, n));
+            printed(Status::Done)
+        }
+    }
+}
+
+fn bench(bytes: &[u8], wish: Wish) -> Status {
+    let c = amend::counts(bytes, wish);
+    if c.refusal != 0 {
+        return refused(c.refusal);
+    }
+    listing::say_sheet(c.settings, c.count, c.tally);
+    printed(Status::Done)
+}
+
+fn list(bytes: &[u8]) -> Status {
+    let fresh = listing::fresh_for(bytes);
+    let replayed = listing::list(fresh, tally::zero(), bytes);
+    ended(replayed.refusal)
+}
+
+fn rows(bytes: &[u8], wish: Wish) -> Status {
+    let mut space = [0u8; BYTE_LIMIT];
+    let refusal = amend::set(bytes, wish, &mut space);
+    if refusal != 0 {
+        return refused(refusal);
+    }
+    list(front(&space, bytes.len()))
+}
+
+fn quote_counts(tally: Tally) {
+    say_number(tally.misses as u64);
+    say_number(tally.written as u64);
+}
+
+fn quote_rule(bytes: &[u8], wish: Wish, rule: u64) {
+    let c = amend::counts(bytes, wish::with(wish, wish::RULE, rule));
+    quote_counts(c.tally);
+}
+
+// A line of a quote: the counts of each rule with so many frames.
+fn quote_size(bytes: &[u8], wish: Wish, frames: u16) {
+    let sized = wish::with(wish, wish::FRAMES, frames as u64);
+    say_first(frames as u64);
+    let mut rule: u64 = 0;
+    while rule < QUOTE_RULES {
+        quote_rule(bytes, sized, rule);
+        rule += 1;
+    }
+    say(b"\n");
+}
+
+fn quote_sizes(bytes: &[u8], wish: Wish, own: u16) {
+    let mut size = amend::next_size(own, 0);
+    let mut turns: u32 = 0;
+    while turns < QUOTE_LINES {
+        if size == 0 {
+            return;
+        }
+        quote_size(bytes, wish, size);
+        size = amend::next_size(own, size);
+        turns += 1;
+    }
+}
+
+fn quote(bytes: &[u8], wish: Wish) -> Status {
+    let c = amend::counts(bytes, wish);
+    if c.refusal != 0 {
+        return refused(c.refusal);
+    }
+    say(b"frames lru-misses lru-written clock-misses clock-written watt-misses watt-written\n");
+    quote_sizes(bytes, wish, c.settings.frames);
+    printed(Status::Done)
+}
+
+fn import_text(text: &[u8], request: Request) -> Status {
+    let mut space = [0u8; BYTE_LIMIT];
+    let imported = amend::import(text, request.wish, words::order_of(request), &mut space);
+    match imported {
+        Imported::BadLine(n) => {
+            say(b"line");
+            say_number(n as u64);
+            say(b" refused\n");
+            printed(Status::Refused)
+        }
+        Imported::Refused(r) => refused(r),
+        Imported::Written(n) => files::write(request.files[1], front(&space, n)),
+    }
+}
+
+// The space that a text is read into. One byte more than the longest has is read, so that a longer one shows. The length is
+// promised, since it is too great to be found by counting.
+fn text_space() -> [u8; TEXT_LIMIT + 1]
+    ensures { λ r. ⌜ 1048577 ≡ length r ⌝ }
+{
+    [0; TEXT_LIMIT + 1]
+}
+
+fn import(request: Request) -> Status {
+    let mut space = text_space();
+    let input = files::read(request.files[0], &mut space);
+    if input.failed {
+        return Status::Failed;
+    }
+    if TEXT_LIMIT < input.size {
+        return files::tell_too_large(request.files[0]);
+    }
+    files::clear_errno();
+    import_text(front(&space, input.size), request)
+}
+
+// The work on a trace's bytes. What is printed is printed with errno cleared.
+fn work(request: Request, bytes: &[u8]) -> Status {
+    let command = request.command;
+    match command {
+        Command::Check => check(bytes),
+        Command::Inspect => inspect(bytes),
+        Command::Convert => convert(bytes, request.files[1]),
+        Command::Set => set(bytes, request.wish, request.files[1]),
+        Command::Export => export(bytes),
+        Command::Bench => bench(bytes, request.wish),
+        Command::Rows => rows(bytes, request.wish),
+        Command::Quote => quote(bytes, request.wish),
+        Command::Import => Status::WrongWords,
+        Command::Unknown => Status::WrongWords,
+    }
+}
+
+// One byte more than the longest trace has is read, so that a longer input shows its wrong length.
+fn on_trace(request: Request) -> Status {
+    let mut space = [0u8; BYTE_LIMIT + 1];
+    let input = files::read(request.files[0], &mut space);
+    if input.failed {
+        return Status::Failed;
+    }
+    files::clear_errno();
+    work(request, front(&space, input.size))
+}
+
+pub fn run(request: Request) -> Status {
+    let command = request.command;
+    match command {
+        Command::Import => import(request),
+        _ => on_trace(request),
+    }
+}
