@@ -106,7 +106,7 @@ fn put_account(fd: i32, command: Command) {
 fn put_settings(fd: i32) {
     put(
         fd,
-        b"\nSETTINGS, instead of the trace's own:\
+        b"\nSETTINGS, taken as if the header said so:\
         \n  --rule lru|clock|watt\
         \n  --frames N     1 to 128, how many pages the pool has room for\
         \n  --batch N      1 to 16, the most pages written when a dirty page leaves\
@@ -121,8 +121,8 @@ fn put_settings(fd: i32) {
 fn put_rest(fd: i32) {
     put(
         fd,
-        b"\nA file is a path, or - for standard input or output; without TRACE, standard input is read. After\n\
-        -- every word is a file. A bad trace or setting prints `trace refused N`.\n\
+        b"\nA file is a path, or - for standard input or output; where [TRACE] is left out, standard input is\n\
+        read. After -- every word is a file. A bad trace or setting prints `trace refused N`.\n\
         Exit status: 0 done, 1 refused, 2 wrong words, 3 a file that cannot be read or written.\n\
         \nExample:\n",
     );

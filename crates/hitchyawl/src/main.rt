@@ -3,6 +3,7 @@
 mod files;
 mod help;
 mod names;
+mod spaces;
 mod words;
 mod work;
 

@@ -4,13 +4,11 @@ use crate::files::tell;
 use crate::names;
 use crate::names::Command;
 use crate::names::Flag;
+use crate::spaces;
 use check::same;
 use numeral::Numeral;
 use wish::Wish;
 use word::Order;
-
-// No word that Linux hands over is longer where a page of memory has 4,096 bytes. Of a longer one the first bytes are taken.
-const WORD_LIMIT: usize = 131072;
 
 // How many rules have a name.
 const RULES: u16 = 3;
@@ -219,7 +217,7 @@ fn is_flag(word: &[u8]) -> bool {
     word[0] == b'-'
 }
 
-// Puts word i at the start of space and answers how long it is there.
+// Puts word i at the start of space and answers how long it is there. Of one that is too long the first bytes are taken.
 fn fetch(i: usize, space: &mut [u8]) -> usize {
     let n = os::arg(i, space);
     if os::errno() == libc::ENAMETOOLONG {
@@ -229,7 +227,7 @@ fn fetch(i: usize, space: &mut [u8]) -> usize {
 }
 
 fn with_word(r: Request, i: usize) -> Request {
-    let mut space = [0u8; WORD_LIMIT];
+    let mut space = spaces::for_word();
     let n = fetch(i, &mut space);
     let word = front(&space, n);
     if r.waits != 0 {
@@ -269,22 +267,22 @@ fn with_rest(begun: Request) -> Request {
     whole(r)
 }
 
-fn first_fault() -> Fault {
+fn without_command(r: Request) -> Request {
     if os::arg_count() < 2 {
-        return Fault::NoCommand;
+        return faulty(r, Fault::NoCommand, 0);
     }
-    Fault::UnknownCommand
+    faulty(r, Fault::UnknownCommand, 1)
 }
 
 // What the words ask for, or what is wrong with them.
 pub fn read() -> Request {
-    let mut space = [0u8; WORD_LIMIT];
+    let mut space = spaces::for_word();
     let n = fetch(1, &mut space);
     let word = front(&space, n);
     let command = names::command_named(word);
     let r = bare(command, names::is_help(word));
     match command {
-        Command::Unknown => faulty(r, first_fault(), 1),
+        Command::Unknown => without_command(r),
         _ => with_rest(r),
     }
 }
@@ -296,14 +294,11 @@ pub fn order_of(r: Request) -> Order {
     Order::High
 }
 
-// Writes the word of a fault, where it has one.
 fn tell_word(i: usize) {
-    let mut space = [0u8; WORD_LIMIT];
+    let mut space = spaces::for_word();
     let n = fetch(i, &mut space);
-    if 0 < i {
-        tell(front(&space, n));
-        tell(b": ");
-    }
+    tell(front(&space, n));
+    tell(b": ");
 }
 
 fn tell_reason(fault: Fault) {
@@ -326,6 +321,8 @@ fn tell_reason(fault: Fault) {
 pub fn tell_fault(r: Request) {
     let fault = r.fault;
     tell(b"hitchyawl: ");
-    tell_word(r.place);
+    if r.place != 0 {
+        tell_word(r.place);
+    }
     tell_reason(fault);
 }

@@ -1,11 +1,10 @@
 // What each command does, with a trace that is read for it.
-ghost use mathlib.Core.Path.{_≡_};
-ghost use lib.ListN.{length};
 use crate::files;
 use crate::files::Status;
 use crate::files::front;
 use crate::files::printed;
 use crate::names::Command;
+use crate::spaces;
 use crate::words;
 use crate::words::Request;
 use amend::Exported;
@@ -15,12 +14,8 @@ use lines::say_first;
 use lines::say_number;
 use lines::say_refused;
 use tally::Tally;
-use trace::BYTE_LIMIT;
 use trace::Checked;
 use wish::Wish;
-
-// The longest text that is read.
-const TEXT_LIMIT: usize = 1048576;
 
 // A quote has a line for each of eight sizes and the trace's own.
 const QUOTE_LINES: u32 = 9;
@@ -57,7 +52,7 @@ fn inspect(bytes: &[u8]) -> Status {
 }
 
 fn convert(bytes: &[u8], output: usize) -> Status {
-    let mut space = [0u8; BYTE_LIMIT];
+    let mut space = spaces::for_trace();
     let refusal = scribe::convert(bytes, &mut space);
     if refusal != 0 {
         return refused(refusal);
@@ -66,7 +61,7 @@ fn convert(bytes: &[u8], output: usize) -> Status {
 }
 
 fn set(bytes: &[u8], wish: Wish, output: usize) -> Status {
-    let mut space = [0u8; BYTE_LIMIT];
+    let mut space = spaces::for_trace();
     let refusal = amend::set(bytes, wish, &mut space);
     if refusal != 0 {
         return refused(refusal);
@@ -75,7 +70,7 @@ fn set(bytes: &[u8], wish: Wish, output: usize) -> Status {
 }
 
 fn export(bytes: &[u8]) -> Status {
-    let mut space = [0u8; amend::TEXT_LIMIT];
+    let mut space = spaces::for_text();
     let exported = amend::export(bytes, &mut space);
     match exported {
         Exported::Refused(r) => refused(r),
@@ -102,7 +97,7 @@ fn list(bytes: &[u8]) -> Status {
 }
 
 fn rows(bytes: &[u8], wish: Wish) -> Status {
-    let mut space = [0u8; BYTE_LIMIT];
+    let mut space = spaces::for_trace();
     let refusal = amend::set(bytes, wish, &mut space);
     if refusal != 0 {
         return refused(refusal);
@@ -156,7 +151,7 @@ fn quote(bytes: &[u8], wish: Wish) -> Status {
 }
 
 fn import_text(text: &[u8], request: Request) -> Status {
-    let mut space = [0u8; BYTE_LIMIT];
+    let mut space = spaces::for_trace();
     let imported = amend::import(text, request.wish, words::order_of(request), &mut space);
     match imported {
         Imported::BadLine(n) => {
@@ -170,21 +165,13 @@ fn import_text(text: &[u8], request: Request) -> Status {
     }
 }
 
-// The space that a text is read into. One byte more than the longest has is read, so that a longer one shows. The length is
-// promised, since it is too great to be found by counting.
-fn text_space() -> [u8; TEXT_LIMIT + 1]
-    ensures { λ r. ⌜ 1048577 ≡ length r ⌝ }
-{
-    [0; TEXT_LIMIT + 1]
-}
-
 fn import(request: Request) -> Status {
-    let mut space = text_space();
+    let mut space = spaces::for_text();
     let input = files::read(request.files[0], &mut space);
     if input.failed {
         return Status::Failed;
     }
-    if TEXT_LIMIT < input.size {
+    if spaces::TEXT_LIMIT < input.size {
         return files::tell_too_large(request.files[0]);
     }
     files::clear_errno();
@@ -208,9 +195,8 @@ fn work(request: Request, bytes: &[u8]) -> Status {
     }
 }
 
-// One byte more than the longest trace has is read, so that a longer input shows its wrong length.
 fn on_trace(request: Request) -> Status {
-    let mut space = [0u8; BYTE_LIMIT + 1];
+    let mut space = spaces::for_trace();
     let input = files::read(request.files[0], &mut space);
     if input.failed {
         return Status::Failed;
