@@ -1,22 +1,12 @@
 // Replays a trace on standard input to counts from a fresh pool, and prints the sheet, or `trace refused N`.
-use lines::say_refused;
-use trace::Checked;
-use trace::Summary;
-
-// The sheet of an accepted trace, which no replay from a fresh pool by its own settings refuses.
-fn say_sheet(summary: Summary, bytes: &[u8]) {
-    let settings = summary.settings;
-    let opened = pool::fresh(settings);
-    let ended = replay::counts(opened.pool, tally::zero(), bytes);
-    listing::say_sheet(settings, summary.count, ended.tally);
-}
 
 fn bench(bytes: &[u8]) {
-    let c = trace::check(bytes);
-    match c {
-        Checked::Refused(r) => say_refused(r),
-        Checked::Accepted(summary) => say_sheet(summary, bytes),
+    let c = amend::counts_of(bytes);
+    if c.refusal != 0 {
+        lines::say_refused(c.refusal);
+        return;
     }
+    listing::say_sheet(c.settings, c.count, c.tally);
 }
 
 // One byte more than the longest trace has is read, so that a longer input shows its wrong length.

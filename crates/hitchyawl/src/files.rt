@@ -235,8 +235,9 @@ fn write_whole(name: &[u8], bytes: &[u8]) -> Status {
     replace(name, bytes, part.fd, &space, part.size)
 }
 
+// What stands in `name` already goes on: standard output may be a file that others have written to.
 fn write_in_place(name: &[u8], bytes: &[u8]) -> Status {
-    let fd = os::open_overwrite(name);
+    let fd = os::open_append(name);
     if fd < 0 {
         return failed(name);
     }
@@ -254,7 +255,7 @@ fn is_regular(fd: i32) -> bool {
 
 // A pipe or a device is no file that another could take the place of. Opened to append, as it is here, nothing of a file is changed.
 fn write_named(name: &[u8], bytes: &[u8]) -> Status {
-    if begins(name, b"/dev/") {
+    if begins(name, b"/dev/") & !begins(name, b"/dev/shm/") {
         return write_in_place(name, bytes);
     }
     let fd = os::open_append(name);

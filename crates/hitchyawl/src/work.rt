@@ -7,13 +7,13 @@ use crate::names::Command;
 use crate::spaces;
 use crate::words;
 use crate::words::Request;
-use amend::Exported;
 use amend::Imported;
 use lines::say;
 use lines::say_first;
 use lines::say_number;
 use lines::say_refused;
 use tally::Tally;
+use text::Exported;
 use trace::Checked;
 use wish::Wish;
 
@@ -71,7 +71,7 @@ fn set(bytes: &[u8], wish: Wish, output: usize) -> Status {
 
 fn export(bytes: &[u8]) -> Status {
     let mut space = spaces::for_text();
-    let exported = amend::export(bytes, &mut space);
+    let exported = text::export(bytes, &mut space);
     match exported {
         Exported::Refused(r) => refused(r),
         Exported::Written(n) => {
