@@ -1,12 +1,18 @@
 //! A second program for the replay, written from the paper alone, to be held
 //! against another one. It lists traces and series, makes them from seeds,
 //! and compares its listings and sheets with those of given programs, then once
-//! more with the pages renamed.
+//! more with the pages renamed. It also runs the program `hitchyawl` as its users
+//! do, and holds all that comes of it against what must come.
 
+mod cases;
 #[cfg(test)]
 mod edges;
+mod program;
+#[cfg(test)]
+mod program_tests;
 mod renaming;
 mod replay;
+mod session;
 #[cfg(test)]
 mod tests;
 mod traces;
@@ -27,7 +33,8 @@ usage: listing < TRACE
        makeseries SEED > ITEMS
        stored > ITEMS
        skewed lru|clock|watt high|low > TRACE
-       compare ROWS-PROGRAM BENCH-PROGRAM SERIES-PROGRAM FIRST COUNT SERIESCOUNT";
+       compare HITCHYAWL-PROGRAM BENCH-PROGRAM SERIES-PROGRAM FIRST COUNT SERIESCOUNT
+       session HITCHYAWL FOLDER FIRST COUNT";
 
 fn main() -> ExitCode {
     let arguments: Vec<String> = std::env::args().skip(1).collect();
@@ -73,11 +80,15 @@ fn run(arguments: &[&str]) -> Result<(), Box<dyn Error>> {
             };
             stdout.write_all(&traces::for_timing(&load, order))?;
         }
-        ["compare", rows, bench, series, first, count, series_count] => {
+        ["compare", hitchyawl, bench, series, first, count, series_count] => {
             let first: u64 = first.parse()?;
             let (count, series_count) = (count.parse::<u64>()?, series_count.parse::<u64>()?);
             drop(stdout);
-            compare([rows, bench, series], first, count, series_count)?;
+            compare([hitchyawl, bench, series], first, count, series_count)?;
+        }
+        ["session", hitchyawl, folder, first, count] => {
+            drop(stdout);
+            session::session(hitchyawl, folder, first.parse()?, count.parse()?)?;
         }
         _ => return Err(USAGE.into()),
     }
@@ -272,7 +283,8 @@ fn changes_line(changes: &Changes) -> String {
     parts.join("; ")
 }
 
-/// The programs that list a trace, print its sheet, and list a series.
+/// The programs that list a trace with the word `rows`, print its sheet, and list a
+/// series.
 type Programs<'a> = [&'a str; 3];
 
 /// What is made from a seed.
@@ -316,12 +328,15 @@ impl Made {
     /// The same from the programs.
     fn printed_by(
         self,
-        [rows, bench, series]: Programs,
+        [hitchyawl, bench, series]: Programs,
         bytes: &[u8],
     ) -> Result<Vec<u8>, Box<dyn Error>> {
         match self {
-            Made::Trace => Ok([output_of(rows, bytes)?, output_of(bench, bytes)?].concat()),
-            Made::Series => output_of(series, bytes),
+            Made::Trace => {
+                let rows = output_of(hitchyawl, &["rows"], bytes)?;
+                Ok([rows, output_of(bench, &[], bytes)?].concat())
+            }
+            Made::Series => output_of(series, &[], bytes),
         }
     }
 
@@ -333,9 +348,10 @@ impl Made {
     }
 }
 
-/// All that a program prints when it is given these bytes.
-fn output_of(program: &str, input: &[u8]) -> Result<Vec<u8>, Box<dyn Error>> {
+/// All that a program prints when it is given these words and bytes.
+fn output_of(program: &str, words: &[&str], input: &[u8]) -> Result<Vec<u8>, Box<dyn Error>> {
     let mut child = Command::new(program)
+        .args(words)
         .stdin(Stdio::piped())
         .stdout(Stdio::piped())
         .spawn()

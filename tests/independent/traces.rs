@@ -54,7 +54,7 @@ impl Random {
     }
 
     /// As between, with more weight on the two ends.
-    fn edged(&mut self, low: u32, high: u32) -> u32 {
+    pub fn edged(&mut self, low: u32, high: u32) -> u32 {
         match self.between(0, 5) {
             0 => low,
             1 => high,
@@ -67,7 +67,7 @@ impl Random {
         self.between(0, length as u32 - 1) as usize
     }
 
-    fn one_of<T: Copy>(&mut self, list: &[T]) -> T {
+    pub fn one_of<T: Copy>(&mut self, list: &[T]) -> T {
         list[self.place(list.len())]
     }
 }

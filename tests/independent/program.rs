@@ -1,0 +1,512 @@
+//! What the program `hitchyawl` comes to, from what is written about it alone:
+//! given its words and what stands outside, its status, what it prints, and what
+//! its output holds afterwards.
+
+use crate::replay::{check, Kind, Order, Pool, Rule, Settings, Tally, Trace, MOST_RECORDS};
+use crate::replay::{HEADER, RECORD};
+use crate::traces::encode;
+use crate::{list_trace, sheet_of};
+use std::collections::BTreeSet;
+use std::ops::RangeInclusive;
+
+pub type Bytes = Vec<u8>;
+
+pub const LONGEST_TRACE: usize = HEADER + RECORD * MOST_RECORDS as usize;
+pub const LONGEST_TEXT: usize = 1_048_576;
+
+/// As a file's name, standard input or output.
+pub const STANDARD: &[u8] = b"-";
+
+// ------------------------------------------------------------- the commands
+
+#[derive(Clone, Copy, PartialEq, Eq, PartialOrd, Ord, Debug)]
+pub enum Command {
+    Check,
+    Inspect,
+    Convert,
+    Set,
+    Export,
+    Import,
+    Bench,
+    Rows,
+    Quote,
+}
+
+use Command::*;
+
+impl Command {
+    pub const ALL: [Command; 9] = [
+        Check, Inspect, Convert, Set, Export, Import, Bench, Rows, Quote,
+    ];
+
+    pub fn name(self) -> &'static str {
+        match self {
+            Check => "check",
+            Inspect => "inspect",
+            Convert => "convert",
+            Set => "set",
+            Export => "export",
+            Import => "import",
+            Bench => "bench",
+            Rows => "rows",
+            Quote => "quote",
+        }
+    }
+
+    fn named(word: &[u8]) -> Option<Command> {
+        let named = |command: &Command| command.name().as_bytes() == word;
+        Command::ALL.into_iter().find(named)
+    }
+
+    pub fn takes_settings(self) -> bool {
+        matches!(self, Set | Import | Bench | Rows | Quote)
+    }
+
+    /// Whether it writes a file, which is named behind the one it reads.
+    pub fn writes(self) -> bool {
+        matches!(self, Convert | Set | Import)
+    }
+
+    fn takes_files(self) -> RangeInclusive<usize> {
+        match self.writes() {
+            true => 2..=2,
+            false => 0..=1,
+        }
+    }
+}
+
+// --------------------------------------------------------- what comes of it
+
+/// What a run comes to.
+#[derive(Clone, PartialEq, Eq, Debug)]
+pub enum End {
+    Done {
+        printed: Bytes,
+        /// The name of what was written, and what it holds.
+        out: Option<(Bytes, Bytes)>,
+    },
+    /// Of the program, or of one command.
+    Help(Option<Command>),
+    /// The line.
+    Refused(String),
+    /// The command, where that is known.
+    Wrong(Option<Command>),
+    /// What cannot be read or written, and why, where that is fixed.
+    Fault {
+        named: Bytes,
+        reason: Option<&'static str>,
+    },
+}
+
+impl End {
+    pub fn status(&self) -> u8 {
+        match self {
+            End::Done { .. } | End::Help(_) => 0,
+            End::Refused(_) => 1,
+            End::Wrong(_) => 2,
+            End::Fault { .. } => 3,
+        }
+    }
+
+    fn prints(&self) -> bool {
+        match self {
+            End::Done { printed, .. } => !printed.is_empty(),
+            End::Help(_) | End::Refused(_) => true,
+            End::Wrong(_) | End::Fault { .. } => false,
+        }
+    }
+}
+
+fn refused(refusal: u32) -> End {
+    End::Refused(format!("trace refused {refusal}\n"))
+}
+
+fn fault(named: &[u8]) -> End {
+    End::Fault {
+        named: named.to_vec(),
+        reason: None,
+    }
+}
+
+/// What a run finds: files, standard input and standard output.
+pub trait Outside {
+    /// What can be read under a name, as many bytes of it at most.
+    fn read(&self, name: &[u8], most: usize) -> Option<Bytes>;
+    fn can_write(&self, name: &[u8]) -> bool;
+}
+
+pub fn run(words: &[Bytes], outside: &dyn Outside) -> End {
+    let end = asked(words)
+        .and_then(|asked| asked.answer(outside))
+        .unwrap_or_else(|end| end);
+    if end.prints() && !outside.can_write(STANDARD) {
+        return fault(b"standard output");
+    }
+    end
+}
+
+// ---------------------------------------------------------------- the words
+
+/// The settings that are numbers.
+pub const NUMBERS: [(&str, RangeInclusive<u64>); 7] = [
+    ("--frames", 1..=128),
+    ("--batch", 1..=16),
+    ("--cap", 1..=7),
+    ("--sample", 1..=16),
+    ("--weight", 0..=16),
+    ("--epoch", 1..=50_000),
+    ("--seed", 0..=4_294_967_295),
+];
+
+/// What the options said. The last of several alike counts.
+#[derive(Default)]
+struct Given {
+    rule: Option<Rule>,
+    numbers: [Option<u64>; NUMBERS.len()],
+    order: Option<Order>,
+}
+
+struct Asked {
+    command: Command,
+    given: Given,
+    files: Vec<Bytes>,
+}
+
+/// What the words ask for, or how the run ends at once.
+fn asked(words: &[Bytes]) -> Result<Asked, End> {
+    let (first, rest) = words.split_first().ok_or(End::Wrong(None))?;
+    if first == b"--help" {
+        return Err(End::Help(None));
+    }
+    let command = Command::named(first).ok_or(End::Wrong(None))?;
+    let (mut given, mut files) = (Given::default(), Vec::new());
+    let (mut rest, mut wrong) = (rest.iter(), false);
+    while let Some(word) = rest.next() {
+        match word.as_slice() {
+            b"--help" => return Err(End::Help(Some(command))),
+            b"--" => files.extend(rest.by_ref().cloned()),
+            b"-" => files.push(word.clone()),
+            [b'-', ..] => match taken_option(command, word) {
+                // Help still wins over a fault, so the rest is looked through.
+                Some(option) => wrong |= given.take(option, rest.next()).is_none(),
+                None => wrong = true,
+            },
+            _ => files.push(word.clone()),
+        }
+    }
+    if wrong || !command.takes_files().contains(&files.len()) {
+        return Err(End::Wrong(Some(command)));
+    }
+    Ok(Asked {
+        command,
+        given,
+        files,
+    })
+}
+
+enum Taken {
+    Rule,
+    Order,
+    Number(usize),
+}
+
+fn taken_option(command: Command, word: &[u8]) -> Option<Taken> {
+    if word == b"--order" {
+        return (command == Import).then_some(Taken::Order);
+    }
+    if !command.takes_settings() {
+        return None;
+    }
+    if word == b"--rule" {
+        return Some(Taken::Rule);
+    }
+    let mut names = NUMBERS.iter().map(|(name, _)| name.as_bytes());
+    names.position(|name| name == word).map(Taken::Number)
+}
+
+impl Given {
+    /// None where the value is missing or none of this option.
+    fn take(&mut self, option: Taken, value: Option<&Bytes>) -> Option<()> {
+        let value = value?;
+        match option {
+            Taken::Rule => self.rule = Some(rule_named(value)?),
+            Taken::Order => self.order = Some(order_named(value)?),
+            Taken::Number(at) => self.numbers[at] = Some(number(value)?),
+        }
+        Some(())
+    }
+
+    /// The settings as these options change them, or refusal 8.
+    fn over(&self, mut settings: Settings) -> Result<Settings, u32> {
+        settings.rule = self.rule.unwrap_or(settings.rule);
+        for ((given, (_, range)), field) in
+            self.numbers.iter().zip(&NUMBERS).zip(fields(&mut settings))
+        {
+            if let Some(number) = given {
+                if !range.contains(number) {
+                    return Err(8);
+                }
+                *field = *number as u32;
+            }
+        }
+        Ok(settings)
+    }
+}
+
+/// The settings in the order of their options.
+fn fields(settings: &mut Settings) -> [&mut u32; NUMBERS.len()] {
+    let Settings {
+        rule: _,
+        frames,
+        batch,
+        cap,
+        sample,
+        weight,
+        epoch,
+        seed,
+    } = settings;
+    [frames, batch, cap, sample, weight, epoch, seed]
+}
+
+fn rule_named(word: &[u8]) -> Option<Rule> {
+    let named = |rule: &Rule| rule_name(*rule).as_bytes() == word;
+    RULES.into_iter().find(named)
+}
+
+fn order_named(word: &[u8]) -> Option<Order> {
+    match word {
+        b"high" => Some(Order::HighFirst),
+        b"low" => Some(Order::LowFirst),
+        _ => None,
+    }
+}
+
+/// Decimal digits, however many. A number beyond every field is kept as the
+/// greatest there is, which is beyond every field, too.
+fn number(word: &[u8]) -> Option<u64> {
+    let append = |number: u64, digit: &u8| {
+        let digit = u64::from(digit - b'0');
+        number.saturating_mul(10).saturating_add(digit)
+    };
+    let digits = !word.is_empty() && word.iter().all(u8::is_ascii_digit);
+    digits.then(|| word.iter().fold(0, append))
+}
+
+// --------------------------------------------------------------- the answer
+
+pub const RULES: [Rule; 3] = [Rule::Lru, Rule::Clock, Rule::Watt];
+
+pub fn rule_name(rule: Rule) -> &'static str {
+    match rule {
+        Rule::Lru => "lru",
+        Rule::Clock => "clock",
+        Rule::Watt => "watt",
+    }
+}
+
+/// What `import` takes where no option says otherwise.
+const DEFAULTS: Settings = Settings {
+    rule: Rule::Lru,
+    frames: 64,
+    batch: 8,
+    cap: 5,
+    sample: 8,
+    weight: 2,
+    epoch: 100,
+    seed: 1,
+};
+
+impl Asked {
+    fn answer(&self, outside: &dyn Outside) -> Result<End, End> {
+        let bytes = match self.command {
+            Import => self.imported(outside)?,
+            _ => self.of_trace(outside)?,
+        };
+        let out = match self.command.writes() {
+            true => &self.files[1],
+            false => STANDARD,
+        };
+        if out == STANDARD {
+            return Ok(End::Done {
+                printed: bytes,
+                out: None,
+            });
+        }
+        if !outside.can_write(out) {
+            return Err(fault(out));
+        }
+        Ok(End::Done {
+            printed: Bytes::new(),
+            out: Some((out.to_vec(), bytes)),
+        })
+    }
+
+    /// The input, or a byte more than the longest that is of use.
+    fn input(&self, outside: &dyn Outside, longest: usize) -> Result<Bytes, End> {
+        let name = self.files.first().map_or(STANDARD, Vec::as_slice);
+        let bytes = outside.read(name, longest + 1);
+        bytes.ok_or_else(|| fault(self.input_named()))
+    }
+
+    /// The input as it is named on standard error.
+    fn input_named(&self) -> &[u8] {
+        match self.files.first() {
+            Some(name) if name != STANDARD => name,
+            _ => b"standard input",
+        }
+    }
+
+    /// A trace is refused as it stands before the options are.
+    fn of_trace(&self, outside: &dyn Outside) -> Result<Bytes, End> {
+        let bytes = self.input(outside, LONGEST_TRACE)?;
+        let Trace { settings, records } = check(&bytes).map_err(refused)?;
+        let order = order_of(&bytes);
+        let settings = self.given.over(settings).map_err(refused)?;
+        let written = |order| encoded(&settings, order, &records);
+        let text = match self.command {
+            Convert => return Ok(written(other_order(order))),
+            Set => return Ok(written(order)),
+            Check => "accepted\n".to_string(),
+            Inspect => inspected(order, settings, &records),
+            Export => records.iter().map(line_of).collect(),
+            Rows => list_trace(&written(order), &mut |_| {}),
+            Bench => {
+                let bytes = written(order);
+                sheet_of(&bytes, &list_trace(&bytes, &mut |_| {}))
+            }
+            Quote => quoted(settings, &records),
+            Import => unreachable!("its input is no trace"),
+        };
+        Ok(text.into_bytes())
+    }
+
+    fn imported(&self, outside: &dyn Outside) -> Result<Bytes, End> {
+        let text = self.input(outside, LONGEST_TEXT)?;
+        if text.len() > LONGEST_TEXT {
+            return Err(End::Fault {
+                named: self.input_named().to_vec(),
+                reason: Some("File too large"),
+            });
+        }
+        let records =
+            records_of(&text).map_err(|number| End::Refused(format!("line {number} refused\n")))?;
+        if records.len() > MOST_RECORDS as usize {
+            return Err(refused(4));
+        }
+        let settings = self.given.over(DEFAULTS).map_err(refused)?;
+        let order = self.given.order.unwrap_or(Order::HighFirst);
+        Ok(encoded(&settings, order, &records))
+    }
+}
+
+/// Of an accepted trace.
+pub fn order_of(bytes: &[u8]) -> Order {
+    match bytes[0] {
+        1 => Order::HighFirst,
+        _ => Order::LowFirst,
+    }
+}
+
+pub fn other_order(order: Order) -> Order {
+    match order {
+        Order::HighFirst => Order::LowFirst,
+        Order::LowFirst => Order::HighFirst,
+    }
+}
+
+pub fn encoded(settings: &Settings, order: Order, records: &[(u32, Kind)]) -> Bytes {
+    let records: Vec<(u32, u32)> = records
+        .iter()
+        .map(|&(page, kind)| (page, kind as u32))
+        .collect();
+    encode(settings, order, &records)
+}
+
+fn inspected(order: Order, mut settings: Settings, records: &[(u32, Kind)]) -> String {
+    let order = match order {
+        Order::HighFirst => "high",
+        Order::LowFirst => "low",
+    };
+    let mut text = format!("order {order}\npolicy {}\n", rule_name(settings.rule));
+    for ((option, _), field) in NUMBERS.iter().zip(fields(&mut settings)) {
+        text += &format!("{} {field}\n", option.trim_start_matches('-'));
+    }
+    let writes = records.iter().filter(|(_, kind)| *kind == Kind::Write);
+    text + &format!("records {}\nwrites {}\n", records.len(), writes.count())
+}
+
+// ------------------------------------------------------- records as lines
+
+fn line_of(&(page, kind): &(u32, Kind)) -> String {
+    let name = match kind {
+        Kind::Read => "read",
+        Kind::Write => "write",
+        Kind::Pin => "pin",
+        Kind::Unpin => "unpin",
+    };
+    format!("{name} {page}\n")
+}
+
+/// The records of a text, or the number of its first bad line. What follows the
+/// last line feed is a line, too; where it is empty, it is passed over.
+fn records_of(text: &[u8]) -> Result<Vec<(u32, Kind)>, usize> {
+    let mut records = Vec::new();
+    for (number, line) in (1usize..).zip(text.split(|&byte| byte == b'\n')) {
+        if !matches!(line, [] | [b'#', ..]) {
+            records.push(record_of(line).ok_or(number)?);
+        }
+    }
+    Ok(records)
+}
+
+fn record_of(line: &[u8]) -> Option<(u32, Kind)> {
+    let space = line.iter().position(|&byte| byte == b' ')?;
+    let kind = match &line[..space] {
+        b"read" => Kind::Read,
+        b"write" => Kind::Write,
+        b"pin" => Kind::Pin,
+        b"unpin" => Kind::Unpin,
+        _ => return None,
+    };
+    let page = u32::try_from(number(&line[space + 1..])?).ok()?;
+    Some((page, kind))
+}
+
+// ---------------------------------------------------------------- the quote
+
+/// The frames of a quote's lines.
+pub fn quoted_frames(own: u32) -> BTreeSet<u32> {
+    (0..8).map(|power| 1 << power).chain([own]).collect()
+}
+
+fn quoted(settings: Settings, records: &[(u32, Kind)]) -> String {
+    let mut text = "frames".to_string();
+    for rule in RULES.map(rule_name) {
+        text += &format!(" {rule}-misses {rule}-written");
+    }
+    text.push('\n');
+    for frames in quoted_frames(settings.frames) {
+        text += &frames.to_string();
+        for rule in RULES {
+            let tally = tally_of(
+                Settings {
+                    rule,
+                    frames,
+                    ..settings
+                },
+                records,
+            );
+            text += &format!(" {} {}", tally.misses, tally.written);
+        }
+        text.push('\n');
+    }
+    text
+}
+
+fn tally_of(settings: Settings, records: &[(u32, Kind)]) -> Tally {
+    let (mut pool, mut tally) = (Pool::fresh(settings), Tally::default());
+    for &(page, kind) in records {
+        tally.raise(&pool.step(page, kind));
+    }
+    tally
+}
