@@ -7,6 +7,7 @@
 mod cases;
 #[cfg(test)]
 mod edges;
+mod fixed;
 mod program;
 #[cfg(test)]
 mod program_tests;

@@ -2,8 +2,8 @@
 //! holds what it printed, its status and the files it left against what must come.
 
 use crate::cases::{self, Case, Input, Node, Output};
-use crate::first_difference;
 use crate::program::{self, Bytes, Command, End, Outside, STANDARD};
+use crate::{first_difference, fixed};
 use std::collections::BTreeMap;
 use std::error::Error;
 use std::ffi::OsStr;
@@ -16,7 +16,7 @@ use std::path::{Path, PathBuf};
 use std::process::{self, Child, ExitStatus, Stdio};
 use std::sync::mpsc::{self, Receiver, RecvTimeoutError};
 use std::thread;
-use std::time::Duration;
+use std::time::{Duration, Instant};
 
 /// A run that takes longer is ended and is a fault.
 const LIMIT: Duration = Duration::from_secs(20);
@@ -130,6 +130,9 @@ fn ran_to_its_end(child: &mut Child, case: &Case) -> io::Result<(ExitStatus, Byt
             if let (Some(mut stdin), Input::Pipe(bytes)) = (stdin, &case.stdin) {
                 // A program may well stop reading.
                 let _ = stdin.write_all(bytes);
+                if let Some(ends) = case.input_ends {
+                    thread::sleep(ends.saturating_duration_since(Instant::now()));
+                }
             }
         });
         let stderr = scope.spawn(move || all_of(stderr));
@@ -320,8 +323,9 @@ impl Outside for Before<'_> {
             b"" | [.., b'/'] | b"/dev/full" => false,
             _ => match fs::metadata(&path) {
                 Ok(found) if found.is_dir() => false,
-                Ok(found) if found.is_file() => can_make(&path.with_file_name("probe")),
-                Ok(_) => true,
+                Ok(found) if !found.is_file() => true,
+                _ if case.no_room => false,
+                Ok(_) => can_make(&path.with_file_name("probe")),
                 Err(_) => can_make(&path),
             },
         }
@@ -605,38 +609,39 @@ impl Session {
         Ok(ran)
     }
 
-    /// Runs two cases of the same files and the same output at once. Afterwards
-    /// that is what one of them makes of it.
-    pub fn ran_at_once(&mut self, cases: [&Case; 2]) -> Result<(), String> {
+    /// Runs cases of the same files and the same output at once. Afterwards that is
+    /// what one of them makes of it.
+    pub fn ran_at_once(&mut self, cases: &[Case]) -> Result<(), String> {
         let told = |error: io::Error| format!("the scratch folder: {error}");
         let scratch = Scratch::new(&self.folder, &cases[0].nodes).map_err(told)?;
         let before = scratch.found().map_err(told)?;
+        let ends: Vec<End> = cases
+            .iter()
+            .map(|case| program::run(&case.words, &Before(&scratch.folder, case)))
+            .collect();
         let (program, folder) = (&self.program, &scratch.folder);
-        let rans = thread::scope(|scope| {
-            let runs = cases.map(|case| scope.spawn(move || run(program, folder, case)));
-            runs.map(|run| run.join().expect("a run that ends"))
+        let rans: Vec<Result<Ran, String>> = thread::scope(|scope| {
+            let start = |case| scope.spawn(move || run(program, folder, case));
+            let runs: Vec<_> = cases.iter().map(start).collect();
+            let joined = runs.into_iter().map(|run| run.join());
+            joined.map(|ran| ran.expect("a run that ends")).collect()
         });
         let found = scratch.found().map_err(told)?;
-        let mut left = Vec::new();
-        // The rules see the folder as it was, for the first must not feed the second.
-        let scratch = Scratch::new(&self.folder, &cases[0].nodes).map_err(told)?;
-        for (case, ran) in cases.into_iter().zip(rans) {
-            let end = program::run(&case.words, &Before(&scratch.folder, case));
-            self.seen.note(&case.words, &end);
-            expect_end(&end, case, &ran?)?;
-            let expected = scratch.expected(before.clone(), case, &end);
-            left.push(expect_folder(&expected, &found));
+        let mut left = Err("no run".to_string());
+        for ((case, end), ran) in cases.iter().zip(&ends).zip(rans) {
+            self.seen.note(&case.words, end);
+            expect_end(end, case, &ran?)?;
+            let expected = scratch.expected(before.clone(), case, end);
+            left = left.or(expect_folder(&expected, &found));
         }
-        left.into_iter()
-            .reduce(|first, second| first.or(second))
-            .expect("two runs")
+        left
     }
 
     /// The faults of all cases, until there are enough of them.
     fn all(&mut self, first: u64, count: u64) -> Vec<String> {
         let mut faults = Vec::new();
         let generated = (first..first + count).map(cases::generated);
-        for case in cases::fixed().into_iter().chain(generated) {
+        for case in fixed::fixed().into_iter().chain(generated) {
             if let Err(fault) = self.ran(&case) {
                 let words = shown_words(&case.words);
                 faults.push(format!("{}{words}: {fault}", case.about));
