@@ -17,6 +17,8 @@ pub enum Node {
     File(Bytes),
     /// Unless whoever runs this may read everything.
     Unreadable(Bytes),
+    /// Another name of what stands under this one.
+    Link(Bytes),
     Folder,
     /// A named pipe with a reader.
     Pipe,
@@ -212,7 +214,7 @@ fn random_wrong(random: &mut Random) -> [String; 2] {
         ["--frames", "many"],
         ["--rule", "random"],
         ["--order", "both"],
-        ["--window", "8"],
+        ["--size", "8"],
         ["--seed", "0x1"],
     ];
     random.one_of(&wrong).map(String::from)

@@ -698,6 +698,13 @@ fn writing() -> Vec<Case> {
         Case::of("convert old pipe")
             .node("pipe", Node::Pipe)
             .refused("trace refused 1"),
+        // A renamed file is another one, and who had the old one keeps it.
+        Case::of("convert good old")
+            .node("kept", Node::Link("old".into()))
+            .gives(example_low()),
+        Case::of("set --frames 4 good good")
+            .node("kept", Node::Link("good".into()))
+            .status(0),
         // What others may have left beside it, or what another run is about to write.
         Case::of("convert good old")
             .file("old.part", OLD)

@@ -193,6 +193,7 @@ impl Scratch {
                 fs::write(&path, bytes)?;
                 fs::set_permissions(path, fs::Permissions::from_mode(0))
             }
+            Node::Link(to) => fs::hard_link(self.folder.join(path_of(to)), path),
             Node::Folder => fs::create_dir(path),
             Node::Fed(_) => make_pipe(&path),
             Node::Pipe => {
@@ -350,6 +351,20 @@ fn shown(bytes: &[u8]) -> String {
 pub fn shown_words(words: &[Bytes]) -> String {
     let words: Vec<String> = words.iter().map(|word| shown(word)).collect();
     words.join(" ")
+}
+
+fn shown_case(case: &Case) -> String {
+    let input = match &case.stdin {
+        Input::From(name) => format!(" <{}", shown(name)),
+        Input::Pipe(_) | Input::Closed => String::new(),
+    };
+    let output = match case.stdout {
+        Output::Full => " >/dev/full",
+        Output::Pipe | Output::Closed => "",
+    };
+    let shell = shell_text(case).map_or(String::new(), |text| format!(", by {text:?}"));
+    let words = shown_words(&case.words);
+    format!("{}{words}{input}{output}{shell}", case.about)
 }
 
 /// What a run printed and how it ended, against what must come.
@@ -643,8 +658,7 @@ impl Session {
         let generated = (first..first + count).map(cases::generated);
         for case in fixed::fixed().into_iter().chain(generated) {
             if let Err(fault) = self.ran(&case) {
-                let words = shown_words(&case.words);
-                faults.push(format!("{}{words}: {fault}", case.about));
+                faults.push(format!("{}: {fault}", shown_case(&case)));
             }
             if faults.len() == MOST_FAULTS {
                 return faults;
