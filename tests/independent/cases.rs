@@ -170,7 +170,7 @@ pub fn generated(seed: u64) -> Case {
     }
 }
 
-/// One that is damaged, one in five, or of the most records there may be, seldom.
+/// The trace of any seed, or of one of those that are damaged.
 fn some_trace(random: &mut Random, seed: u64) -> Bytes {
     match random.between(0, 9) {
         0..=1 => traces::trace(5 * seed + 3),
@@ -184,12 +184,12 @@ fn some_out(random: &mut Random) -> &'static str {
     ])
 }
 
-/// Options of a command and one in fifty that is none of its, or has no value of its.
+/// Options of a command; one time in fifty one that it does not take, or not so.
 fn some_options(random: &mut Random, command: Command) -> Vec<[String; 2]> {
     let mut options = Vec::new();
     let pair = |option: &str, value: &str| [option.to_string(), value.to_string()];
     if random.chance(2) {
-        options.push(random_wrong(random));
+        options.push(some_wrong_option(random));
     }
     if command == Command::Import && random.chance(50) {
         options.push(pair("--order", random.one_of(&["high", "low"])));
@@ -209,7 +209,7 @@ fn some_options(random: &mut Random, command: Command) -> Vec<[String; 2]> {
     options
 }
 
-fn random_wrong(random: &mut Random) -> [String; 2] {
+fn some_wrong_option(random: &mut Random) -> [String; 2] {
     let wrong = [
         ["--frames", "many"],
         ["--rule", "random"],

@@ -38,6 +38,30 @@ written 1
 refused 0
 ";
 
+const SHEET_OF_FOUR: &str = "\
+policy lru
+frames 4
+records 5
+hits 2
+misses 3
+evictions 0
+batches 0
+written 0
+refused 0
+";
+
+const SHEET_OF_CLOCK: &str = "\
+policy clock
+frames 2
+records 5
+hits 2
+misses 3
+evictions 1
+batches 0
+written 0
+refused 0
+";
+
 const LISTING: &str = "\
 rows 5
 1 0 0 0
@@ -201,16 +225,16 @@ fn done() -> Vec<Case> {
         Case::of("quote good --frames 3").gives(QUOTE.replace("\n4 ", "\n3 3 0 3 0 3 0\n4 ")),
         Case::of("quote --frames 128 good").gives(QUOTE),
         Case::of("quote --rule watt good").gives(QUOTE),
-        Case::of("bench --frames 4 good").gives(
-            "policy lru\nframes 4\nrecords 5\nhits 2\nmisses 3\nevictions 0\nbatches 0\nwritten 0\nrefused 0\n",
-        ),
-        Case::of("bench good --rule clock").gives(
-            "policy clock\nframes 2\nrecords 5\nhits 2\nmisses 3\nevictions 1\nbatches 0\nwritten 0\nrefused 0\n",
-        ),
+        Case::of("bench --frames 4 good").gives(SHEET_OF_FOUR),
+        Case::of("bench good --rule clock").gives(SHEET_OF_CLOCK),
         Case::of("convert good new").gives(example_low()),
-        Case::of("convert low new").file("low", example_low()).gives(example()),
+        Case::of("convert low new")
+            .file("low", example_low())
+            .gives(example()),
         Case::of("set good new").gives(example()),
-        Case::of("set low new").file("low", example_low()).gives(example_low()),
+        Case::of("set low new")
+            .file("low", example_low())
+            .gives(example_low()),
         Case::of("set --frames 7 good new").gives(example_with(Order::HighFirst, 26, 2, 7)),
         Case::of("set --rule watt low new")
             .file("low", example_low())
@@ -219,8 +243,11 @@ fn done() -> Vec<Case> {
         Case::of("import --order high text new").gives(imported(Order::HighFirst)),
         Case::of("import text --order low new").gives(imported(low)),
         Case::of("import --order high --order low text new").gives(imported(low)),
-        Case::of("import text new --rule lru --frames 2 --batch 1 --cap 1 --sample 1 --weight 0 --epoch 1 --seed 0")
-            .gives(example()),
+        Case::of(
+            "import text new --rule lru --frames 2 --batch 1 --cap 1 --sample 1 --weight 0 \
+             --epoch 1 --seed 0",
+        )
+        .gives(example()),
     ];
     let empty = encode(&PLAIN, Order::HighFirst, &[]);
     for command in of_traces() {

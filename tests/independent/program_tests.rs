@@ -73,9 +73,11 @@ fn commands_on_the_example() {
         printed("export a"),
         "read 7\nwrite 8\nread 7\nread 9\nread 8\n"
     );
-    let inspected = "order high\npolicy lru\nframes 2\nbatch 1\ncap 1\nsample 1\nweight 0\nepoch 1\nseed 0\nrecords 5\nwrites 1\n";
+    let inspected = "order high\npolicy lru\nframes 2\nbatch 1\ncap 1\nsample 1\nweight 0\n\
+                     epoch 1\nseed 0\nrecords 5\nwrites 1\n";
     assert_eq!(printed("inspect a"), inspected);
-    let sheet = "policy lru\nframes 2\nrecords 5\nhits 1\nmisses 4\nevictions 2\nbatches 1\nwritten 1\nrefused 0\n";
+    let sheet = "policy lru\nframes 2\nrecords 5\nhits 1\nmisses 4\nevictions 2\n\
+                 batches 1\nwritten 1\nrefused 0\n";
     assert_eq!(printed("bench a"), sheet);
     let end = &sheet[sheet.find("hits").unwrap()..];
     let rows = printed("rows a");
@@ -85,9 +87,11 @@ fn commands_on_the_example() {
 #[test]
 fn each_setting_goes_to_its_place() {
     let set = made(
-        "set a out --rule watt --frames 3 --batch 4 --cap 5 --sample 6 --weight 7 --epoch 8 --seed 9",
+        "set a out --rule watt --frames 3 --batch 4 --cap 5 --sample 6 --weight 7 \
+         --epoch 8 --seed 9",
     );
-    let expected = "order high\npolicy watt\nframes 3\nbatch 4\ncap 5\nsample 6\nweight 7\nepoch 8\nseed 9\nrecords 5\nwrites 1\n";
+    let expected = "order high\npolicy watt\nframes 3\nbatch 4\ncap 5\nsample 6\nweight 7\n\
+                    epoch 8\nseed 9\nrecords 5\nwrites 1\n";
     assert_eq!(inspected(&set), expected);
     assert_eq!(
         check(&set).unwrap().records,
