@@ -1,5 +1,6 @@
 // Input and output files, by the number of the word that names them. What fails is told on standard error at once, since
 // errno tells of the last failure alone.
+use crate::spaces;
 use check::same;
 use libc::PATH_MAX;
 
@@ -60,8 +61,35 @@ pub fn printed(status: Status) -> Status {
     status
 }
 
-fn no_input(name: &[u8]) -> Input {
-    failed(name);
+// Puts word i at the start of space and answers how long it is there. Of one that is too long the first bytes are taken.
+pub fn fetch(i: usize, space: &mut [u8]) -> usize {
+    let n = os::arg(i, space);
+    if os::errno() == libc::ENAMETOOLONG {
+        return space.len();
+    }
+    n
+}
+
+// Tells what is wrong with the file that word i names, where errno has no reason.
+pub fn failed_word(i: usize, reason: &[u8]) -> Status {
+    let mut space = spaces::for_word();
+    let n = fetch(i, &mut space);
+    let name = front(&space, n);
+    tell(b"hitchyawl: ");
+    if same(name, b"-") {
+        tell(b"standard input");
+    } else {
+        tell(name);
+    }
+    tell(reason);
+    Status::Failed
+}
+
+fn too_long(i: usize) -> Status {
+    failed_word(i, b": File name too long\n")
+}
+
+fn no_input() -> Input {
     Input {
         failed: true,
         size: 0,
@@ -73,7 +101,8 @@ fn read_from(fd: i32, name: &[u8], space: &mut [u8]) -> Input {
     clear_errno();
     let size = io::read_full(fd, space);
     if os::errno() != 0 {
-        return no_input(name);
+        failed(name);
+        return no_input();
     }
     Input {
         failed: false,
@@ -87,7 +116,8 @@ fn read_named(name: &[u8], space: &mut [u8]) -> Input {
     }
     let fd = os::open_read(name);
     if fd < 0 {
-        return no_input(name);
+        failed(name);
+        return no_input();
     }
     let input = read_from(fd, name, space);
     libc::close(fd);
@@ -102,23 +132,10 @@ pub fn read(i: usize, space: &mut [u8]) -> Input {
     let mut name = io::buffer();
     let n = os::arg(i, &mut name);
     if os::errno() != 0 {
-        return no_input(front(&name, PATH_MAX));
+        too_long(i);
+        return no_input();
     }
     read_named(&name[..n], space)
-}
-
-// Tells that the input of word i has too many bytes. No call failed, so errno has no reason.
-pub fn tell_too_large(i: usize) -> Status {
-    let mut name = io::buffer();
-    let n = os::arg(i, &mut name);
-    tell(b"hitchyawl: ");
-    if same(&name[..n], b"-") {
-        tell(b"standard input");
-    } else {
-        tell(&name[..n]);
-    }
-    tell(b": File too large\n");
-    Status::Failed
 }
 
 // Whether a call did its work; where it did not, that is told.
@@ -277,7 +294,7 @@ pub fn write(i: usize, bytes: &[u8]) -> Status {
     let mut name = io::buffer();
     let n = os::arg(i, &mut name);
     if os::errno() != 0 {
-        return failed(front(&name, PATH_MAX));
+        return too_long(i);
     }
     if same(&name[..n], b"-") {
         io::write_all(libc::STDOUT_FILENO, bytes);

@@ -1,4 +1,5 @@
 // The words that the program is started with, as what they ask for.
+use crate::files::fetch;
 use crate::files::front;
 use crate::files::tell;
 use crate::names;
@@ -215,15 +216,6 @@ fn is_flag(word: &[u8]) -> bool {
         return false;
     }
     word[0] == b'-'
-}
-
-// Puts word i at the start of space and answers how long it is there. Of one that is too long the first bytes are taken.
-fn fetch(i: usize, space: &mut [u8]) -> usize {
-    let n = os::arg(i, space);
-    if os::errno() == libc::ENAMETOOLONG {
-        return space.len();
-    }
-    n
 }
 
 fn with_word(r: Request, i: usize) -> Request {

@@ -172,7 +172,7 @@ fn import(request: Request) -> Status {
         return Status::Failed;
     }
     if spaces::TEXT_LIMIT < input.size {
-        return files::tell_too_large(request.files[0]);
+        return files::failed_word(request.files[0], b": File too large\n");
     }
     files::clear_errno();
     import_text(front(&space, input.size), request)
