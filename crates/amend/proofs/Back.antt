@@ -1,9 +1,10 @@
--- One call after the other: a text becomes a trace, and the trace a text with the same records.
+-- One call after the other: a text becomes a trace, and the trace a text with the same records; setting nothing changes nothing.
 use mathlib.Core.Path.{_≡_, refl, sym, ap, _∙_}
 use mathlib.Core.List.{List}
 use Prim.Native.Nat.{ℕ, zero, suc, _+_, _*_, _≤_}
 use native.Mathlib.Omega.{arith}
 use lib.ListN.{length, take}
+use lib.Seq.{sets}
 use borrow.Author.Tests.{leb-true}
 use lib.Dec.{leb}
 use Rattle.word.specs.declared.Order.{Order}
@@ -11,15 +12,18 @@ use Rattle.word.proofs.Laws.{Bytes, sets-front}
 use Rattle.refusal.specs.Refusals.{demand, noRoom}
 use Rattle.refusal.proofs.Laws.{met, neither}
 use Rattle.trace.specs.Check.{refusalOf, traceOf}
-use Rattle.trace.proofs.Whole.{proper, decode-whole}
+use Rattle.trace.proofs.Whole.{proper, encode-trace, decode-whole}
+use Rattle.scribe.specs.Write.{writeRefusal}
 use Rattle.wish.specs.declared.Wish.{Wish}
+use Rattle.wish.specs.Wish.{noWish}
+use Rattle.wish.proofs.Laws.{no-wish}
 use Rattle.text.specs.declared.Exported.the-variants.{Written as Exported·Written}
 use Rattle.text.specs.Text.{linesIn, pagesIn, kindsIn, lineRoom, textOf, exported, exportRefusal, ExportedInto, ReadsAs}
 use Rattle.text.proofs.Storing.{text-long}
 use Rattle.text.proofs.Round.{text-back}
 use Rattle.amend.specs.declared.Imported.{Imported}
 use Rattle.amend.specs.declared.Imported.the-variants.{Written}
-use Rattle.amend.specs.Amend.{traceIn, ImportsBack}
+use Rattle.amend.specs.Amend.{wishedTrace, setRefusal, SetInto, traceIn, ImportsBack}
 
 -- an export that is not refused stores the whole text, and it fits
 exported-whole : (r m : ℕ) (text : List ℕ) → Exported·Written m ≡ exported r text → (r ≡ 0) × (m ≡ length text)
@@ -47,3 +51,13 @@ pub import-export : (text : List ℕ) (w : Wish) (order : Order) (answer : Impor
 import-export text w order answer bytes n out m out′ back e bs i =
     let t = decode-whole (take n bytes) (traceIn text w order) (back n e) .1 in
     rw t at (export-reads (take n bytes) out m out′ bs i)
+
+-- set with no wish: the first bytes again
+pub set-nothing : (s out : List ℕ) (r : ℕ) (out′ : List ℕ) → Bytes s → SetInto s noWish out r out′ → r ≡ 0 → out′ ≡ sets out 0 s
+unfolding setRefusal
+set-nothing s out r out′ bs i z =
+    let none = sym (i .answers) ∙ z in
+    let n = neither (refusalOf s) (writeRefusal (wishedTrace noWish (traceOf s)) (length out)) none in
+    let held = proper s bs (n .0) in
+    let same : wishedTrace noWish (traceOf s) ≡ traceOf s = rw (no-wish (traceOf s .settings) (held .range) (held .seed)) in
+    i .bytes-hold ∙ rw (none, same, encode-trace s bs (n .0))

@@ -2,15 +2,17 @@
 use mathlib.Core.Path.{_≡_, _∙_}
 use mathlib.Core.Bool.{Bool, true, false, _&&_, and-eq-true-iff}
 use mathlib.Core.List.{List, [], _∷_}
-use Prim.Native.Nat.{ℕ, _%_}
+use Prim.Native.Nat.{ℕ, _%_, _<_}
+use native.Mathlib.Omega.{arith}
 use native.Mathlib.Nat.{mod-eq-of-lt}
 use lib.Dec.{ltb}
 use lib.ListN.{drop}
-use borrow.Author.Tests.{ltb-true}
-use Rattle.settings.specs.Settings.{theFields, settingsBy}
+use borrow.Author.Tests.{ltb-true, lt-ltb}
+use Rattle.settings.specs.Settings.{theFields, inRange, settingsBy}
+use Rattle.settings.proofs.Laws.{ranges}
 use Rattle.settings.specs.declared.Settings.{Settings}
 use Rattle.wish.specs.declared.Wish.{Wish}
-use Rattle.wish.specs.Wish.{chosenAt, fitFields, settingsFitting, wishedSettings}
+use Rattle.wish.specs.Wish.{noWish, chosenAt, fitFields, settingsFitting, wishedSettings}
 
 -- the first of some fits, and the rest do
 fits-first : (n w : ℕ) (rest : Bool) → (ltb n w && rest) ≡ true → (n % w ≡ n) × (rest ≡ true)
@@ -56,3 +58,19 @@ module _ (rule frames batch cap sample weight span seed : ℕ) where
       → span ≡ chosenAt w 6 (own .span) → seed ≡ chosenAt w 7 (own .seed) → s ≡ wishedSettings w own
   unfolding wishedSettings
   wished-is w own s e a b c d f g h i = e ∙ rw (a, b, c, d, f, g, h, i)
+
+-- without a wish the settings are their own
+pub no-wish : (s : Settings) → inRange s ≡ true → s .seed < 4294967296 → wishedSettings noWish s ≡ s
+unfolding wishedSettings settingsFitting
+no-wish s r seed =
+    let k = ranges s r in
+    rw (
+      lt-ltb (s .rule) 65536 (omega (arith, k .rule)),
+      lt-ltb (s .frames) 65536 (omega (arith, k .frames .1)),
+      lt-ltb (s .batch) 65536 (omega (arith, k .batch .1)),
+      lt-ltb (s .cap) 65536 (omega (arith, k .cap .1)),
+      lt-ltb (s .sample) 65536 (omega (arith, k .sample .1)),
+      lt-ltb (s .weight) 65536 (omega (arith, k .weight)),
+      lt-ltb (s .span) 4294967296 (omega (arith, k .span .1)),
+      lt-ltb (s .seed) 4294967296 seed,
+    )
