@@ -708,7 +708,7 @@ fn writing() -> Vec<Case> {
         // A file that can only be begun, as on a full disk.
         let case = Case::new(on(command, "most", "old")).file("most", most_of(command));
         cases.push(Case {
-            first: "trap '' XFSZ; ulimit -f 1; ",
+            first: "ulimit -f 1; ",
             no_room: true,
             ..case.status(3)
         });

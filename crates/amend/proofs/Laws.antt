@@ -24,12 +24,13 @@ use Rattle.scribe.specs.Write.{writeRefusal, WrittenTo, ReadsBack}
 use Rattle.tally.specs.declared.Tally.{Tally}
 use Rattle.fresh.specs.Fresh.{freshCounts}
 use Rattle.wish.specs.declared.Wish.{Wish}
-use Rattle.wish.specs.Wish.{wishedSettings, usualSettings}
+use Rattle.wish.specs.Wish.{wishedFor, wishedSettings, usualSettings}
 use Rattle.text.specs.Text.{linesIn, firstBad, pagesIn, kindsIn}
 use Rattle.text.proofs.Filling.{numbers-many}
 use Rattle.amend.specs.declared.Imported.the-variants.{BadLine, Refused, Written}
-use Rattle.amend.specs.Amend.{wishedTrace, setRefusal, SetInto, SetsBack, traceIn, ImportedInto, ImportsBack, notCounted, countedBy, countsOf, countsWith}
+use Rattle.amend.specs.Amend.{wishedTrace, setRefusal, SetInto, SetsBack, traceIn, ImportedInto, ImportsBack, notCounted, sheetBy, sheetOf, sheetWith}
 use Rattle.amend.specs.declared.Counted.{Counted}
+use Rattle.amend.specs.Quote.{quoteTally}
 
 -- a trace as written, under another name of its settings
 pub written-as : (x y : Settings) (order : Order) (pages kinds out out′ : List ℕ) (r : ℕ) → x ≡ y
@@ -115,15 +116,15 @@ module _ (text : List ℕ) (w : Wish) (order : Order) (out : List ℕ) where
 
 module _ (s : List ℕ) where
   pub counted-whole : (h : Summary) (t : Tally) → checkOf s ≡ Accepted h → t ≡ freshCounts (traceOf s)
-      → record { refusal = 0; settings = h .settings; count = h .count; tally = t } ≡ countsOf s
-  unfolding countedBy
+      → record { refusal = 0; settings = h .settings; count = h .count; tally = t } ≡ sheetOf s
+  unfolding sheetBy
   counted-whole h t e x = let a = accepted s h e in rw (a .0, a .1, x)
 
-  pub counted-refused : (r : ℕ) (k : Counted) → checkOf s ≡ Checked·Refused r → k ≡ notCounted r → k ≡ countsOf s
-  unfolding countedBy
+  pub counted-refused : (r : ℕ) (k : Counted) → checkOf s ≡ Checked·Refused r → k ≡ notCounted r → k ≡ sheetOf s
+  unfolding sheetBy
   counted-refused r k e x = let f = refused-is s r e in go r (f .0) (f .1) x
     where
-      go : (n : ℕ) → refusalOf s ≡ n → (n ≡ 0 → ⊥) → k ≡ notCounted n → k ≡ countedBy (refusalOf s) (traceOf s)
+      go : (n : ℕ) → refusalOf s ≡ n → (n ≡ 0 → ⊥) → k ≡ notCounted n → k ≡ sheetBy (refusalOf s) (traceOf s)
       go zero h ne y = absurd (ne refl)
       go (suc n) h ne y = rw h y
 
@@ -136,13 +137,17 @@ module _ (s : List ℕ) (w : Wish) where
       let few = proper s bs none .few in
       rw (length-trace s bs none) (omega arith)
 
-  pub with-refused : (room r : ℕ) (k : Counted) → room ≡ fileLength recordLimit → r ≡ setRefusal s w room → (r ≡ 0 → ⊥) → k ≡ notCounted r → k ≡ countsWith s w
-  unfolding countedBy
+  pub with-refused : (room r : ℕ) (k : Counted) → room ≡ fileLength recordLimit → r ≡ setRefusal s w room → (r ≡ 0 → ⊥) → k ≡ notCounted r → k ≡ sheetWith s w
+  unfolding sheetBy
   with-refused room zero k l e ne x = absurd (ne refl)
   with-refused room (suc r) k l e ne x = x ∙ rw (← l, ← e)
 
-  pub with-whole : (room r : ℕ) (out : List ℕ) (k : Counted) → room ≡ fileLength recordLimit → r ≡ setRefusal s w room → r ≡ 0 → SetsBack s w r out → k ≡ countsOf (take (length s) out) → k ≡ countsWith s w
+  pub with-whole : (room r : ℕ) (out : List ℕ) (k : Counted) → room ≡ fileLength recordLimit → r ≡ setRefusal s w room → r ≡ 0 → SetsBack s w r out → k ≡ sheetOf (take (length s) out) → k ≡ sheetWith s w
   with-whole room r out k l e z back x =
       let d = decode-whole (take (length s) out) (wishedTrace w (traceOf s)) (back z) in
       let none : setRefusal s w (fileLength recordLimit) ≡ 0 = rw (← l) (sym e ∙ z) in
       x ∙ rw (d .0, d .1, none)
+
+-- a line's counts under one rule
+pub quoted : (s : List ℕ) (w one two : Wish) (rule frames : ℕ) (c : Counted) → one ≡ wishedFor w 1 frames → two ≡ wishedFor one 0 rule → c ≡ sheetWith s two → c .tally ≡ quoteTally s w rule frames
+quoted s w one two rule frames c e f x = rw (x, f, e)

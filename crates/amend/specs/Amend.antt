@@ -61,14 +61,14 @@ abbrev pub notCounted : ℕ → Counted
 notCounted r = record { refusal = r; settings = oneFrame; count = 0; tally = zeroTally }
 
 -- the numbers of a sheet, from a fresh pool
-unfoldable pub countedBy : ℕ → Trace → Counted
-countedBy zero t = record { refusal = 0; settings = t .settings; count = length (t .pages); tally = freshCounts t }
-countedBy (suc r) t = notCounted (suc r)
+unfoldable pub sheetBy : ℕ → Trace → Counted
+sheetBy zero t = record { refusal = 0; settings = t .settings; count = length (t .pages); tally = freshCounts t }
+sheetBy (suc r) t = notCounted (suc r)
 
 -- the numbers of a trace's sheet
-abbrev pub countsOf : List ℕ → Counted
-countsOf s = countedBy (refusalOf s) (traceOf s)
+abbrev pub sheetOf : List ℕ → Counted
+sheetOf s = sheetBy (refusalOf s) (traceOf s)
 
 -- the same as if the header said otherwise
-abbrev pub countsWith : List ℕ → Wish → Counted
-countsWith s w = countedBy (setRefusal s w (fileLength recordLimit)) (wishedTrace w (traceOf s))
+abbrev pub sheetWith : List ℕ → Wish → Counted
+sheetWith s w = sheetBy (setRefusal s w (fileLength recordLimit)) (wishedTrace w (traceOf s))

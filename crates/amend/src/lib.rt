@@ -7,8 +7,8 @@ ghost use Rattle.wish.specs.Wish.{wishedSettings};
 ghost use Rattle.text.specs.Text.{linesIn, firstBad, pagesIn, kindsIn};
 ghost use Rattle.scribe.specs.Write.{WrittenTo, ReadsBack};
 ghost use Rattle.trace.specs.Check.{checkOf};
-ghost use Rattle.amend.specs.Amend.{SetInto, SetsBack, ImportedInto, ImportsBack, notCounted, countsOf, countsWith};
-ghost use Rattle.amend.specs.Quote.{nearerOf, nextSize};
+ghost use Rattle.amend.specs.Amend.{SetInto, SetsBack, ImportedInto, ImportsBack, notCounted, sheetOf, sheetWith};
+ghost use Rattle.amend.specs.Quote.{nearerOf, nextSize, quoteTally, quoteLine};
 use settings::Settings;
 use tally::Tally;
 use trace::Checked;
@@ -31,6 +31,9 @@ pub struct Counted {
     pub count: u32,
     pub tally: Tally,
 }
+
+// Misses and pages written for each rule.
+pub const QUOTE_NUMBERS: usize = 6;
 
 // The first n pages and kinds are written as a trace.
 fn write_first(
@@ -136,7 +139,7 @@ fn not_counted(refusal: u32) -> Counted
 
 fn counts_accepted(bytes: &[u8], summary: Summary) -> Counted
     requires { ⌜ checkOf (now bytes) ≡ Checked.Accepted summary ⌝ }
-    ensures { λ r. ⌜ r ≡ countsOf (now (bytes .entry)) ⌝ }
+    ensures { λ r. ⌜ r ≡ sheetOf (now (bytes .entry)) ⌝ }
 {
     let settings = summary.settings;
     let tally = fresh::counts(bytes, summary);
@@ -150,7 +153,7 @@ fn counts_accepted(bytes: &[u8], summary: Summary) -> Counted
 
 // What the sheet of a trace says.
 pub fn counts_of(bytes: &[u8]) -> Counted
-    ensures { λ r. ⌜ r ≡ countsOf (now (bytes .entry)) ⌝ }
+    ensures { λ r. ⌜ r ≡ sheetOf (now (bytes .entry)) ⌝ }
 {
     let c = trace::check(bytes);
     match c {
@@ -161,7 +164,7 @@ pub fn counts_of(bytes: &[u8]) -> Counted
 
 // What its sheet says where it is taken as if its header said otherwise.
 pub fn counts(bytes: &[u8], wish: Wish) -> Counted
-    ensures { λ r. ⌜ r ≡ countsWith (now (bytes .entry)) wish ⌝ }
+    ensures { λ r. ⌜ r ≡ sheetWith (now (bytes .entry)) wish ⌝ }
 {
     let mut space = [0u8; trace::BYTE_LIMIT];
     let r = set(bytes, wish, &mut space);
@@ -201,4 +204,30 @@ pub fn next_size(own: u16, last: u16) -> u16
             nearer(last, 4, nearer(last, 8, nearer(last, 16, high))),
         ),
     )
+}
+
+// The counts of a trace under a rule with so many frames.
+fn quote_tally(bytes: &[u8], wish: Wish, rule: u64, frames: u64) -> Tally
+    ensures { λ r. ⌜ r ≡ quoteTally (now (bytes .entry)) wish rule frames ⌝ }
+{
+    let sized = wish::with(wish, wish::FRAMES, frames);
+    let c = counts(bytes, wish::with(sized, wish::RULE, rule));
+    c.tally
+}
+
+// The numbers of a quote's line: misses and pages written under each rule.
+pub fn quote_line(bytes: &[u8], wish: Wish, frames: u64) -> [u32; QUOTE_NUMBERS]
+    ensures { λ r. ⌜ r ≡ quoteLine (now (bytes .entry)) wish frames ⌝ }
+{
+    let lru = quote_tally(bytes, wish, 0, frames);
+    let clock = quote_tally(bytes, wish, 1, frames);
+    let watt = quote_tally(bytes, wish, 2, frames);
+    [
+        lru.misses,
+        lru.written,
+        clock.misses,
+        clock.written,
+        watt.misses,
+        watt.written,
+    ]
 }

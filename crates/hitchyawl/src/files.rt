@@ -252,29 +252,29 @@ fn write_whole(name: &[u8], bytes: &[u8]) -> Status {
     replace(name, bytes, part.fd, &space, part.size)
 }
 
-// What stands in `name` already goes on: standard output may be a file that others have written to.
-fn write_in_place(name: &[u8], bytes: &[u8]) -> Status {
-    let fd = os::open_append(name);
-    if fd < 0 {
-        return failed(name);
-    }
-    write_to(fd, name, bytes)
-}
-
 fn begins(text: &[u8], start: &[u8]) -> bool {
     same(front(text, start.len()), start)
 }
 
-// Whether an open file is a regular one: others do not take the position 1.
-fn is_regular(fd: i32) -> bool {
-    libc::lseek(fd, 1, libc::SEEK_SET) == 1
+// Whether an open file is a regular one. A pipe has no positions, and a device like /dev/null none but 0. The size of a
+// block device cannot be set; that is tried below /dev/ alone, since setting the size of a file, if to what it is, changes its time.
+fn is_regular(fd: i32, name: &[u8]) -> bool {
+    if libc::lseek(fd, 1, libc::SEEK_SET) != 1 {
+        return false;
+    }
+    if !begins(name, b"/dev/") {
+        return true;
+    }
+    libc::ftruncate(fd, libc::lseek(fd, 0, libc::SEEK_END)) == 0
+}
+
+// Whether a name stands for an open descriptor, whatever is behind it.
+fn is_descriptor(name: &[u8]) -> bool {
+    begins(name, b"/dev/fd/") | begins(name, b"/dev/std") | begins(name, b"/proc/")
 }
 
 // A pipe or a device is no file that another could take the place of. Opened to append, as it is here, nothing of a file is changed.
 fn write_named(name: &[u8], bytes: &[u8]) -> Status {
-    if begins(name, b"/dev/") & !begins(name, b"/dev/shm/") {
-        return write_in_place(name, bytes);
-    }
     let fd = os::open_append(name);
     if fd < 0 {
         if os::errno() == libc::ENOENT {
@@ -282,7 +282,7 @@ fn write_named(name: &[u8], bytes: &[u8]) -> Status {
         }
         return failed(name);
     }
-    if !is_regular(fd) {
+    if is_descriptor(name) | !is_regular(fd, name) {
         return write_to(fd, name, bytes);
     }
     libc::close(fd);
@@ -296,7 +296,7 @@ pub fn write(i: usize, bytes: &[u8]) -> Status {
     if os::errno() != 0 {
         return too_long(i);
     }
-    if same(&name[..n], b"-") {
+    if same(&name[..n], b"-") | same(&name[..n], b"/dev/stdout") {
         io::write_all(libc::STDOUT_FILENO, bytes);
         return printed(Status::Done);
     }

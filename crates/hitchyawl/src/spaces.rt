@@ -9,10 +9,10 @@ pub const WORD_SPACE: usize = 131072;
 pub const TRACE_SPACE: usize = trace::BYTE_LIMIT + 1;
 
 // The longest text that is read.
-pub const TEXT_LIMIT: usize = 1048576;
+pub const IMPORT_LIMIT: usize = 1048576;
 
 // One byte more, so that a longer text shows.
-pub const TEXT_SPACE: usize = TEXT_LIMIT + 1;
+pub const IMPORT_SPACE: usize = IMPORT_LIMIT + 1;
 
 pub fn for_word() -> [u8; WORD_SPACE]
     ensures { λ r. ⌜ 131072 ≡ length r ⌝ }
@@ -26,8 +26,15 @@ pub fn for_trace() -> [u8; TRACE_SPACE]
     [0; TRACE_SPACE]
 }
 
-pub fn for_text() -> [u8; TEXT_SPACE]
+pub fn for_text() -> [u8; IMPORT_SPACE]
     ensures { λ r. ⌜ 1048577 ≡ length r ⌝ }
 {
-    [0; TEXT_SPACE]
+    [0; IMPORT_SPACE]
+}
+
+// The text of the longest trace.
+pub fn for_lines() -> [u8; text::TEXT_LIMIT]
+    ensures { λ r. ⌜ 136000 ≡ length r ⌝ }
+{
+    [0; text::TEXT_LIMIT]
 }

@@ -12,16 +12,12 @@ use lines::say;
 use lines::say_first;
 use lines::say_number;
 use lines::say_refused;
-use tally::Tally;
 use text::Exported;
 use trace::Checked;
 use wish::Wish;
 
 // A quote has a line for each of eight sizes and the trace's own.
 const QUOTE_LINES: u32 = 9;
-
-// A quote's rules are those from 0 on, so many.
-const QUOTE_RULES: u64 = 3;
 
 fn refused(refusal: u32) -> Status {
     say_refused(refusal);
@@ -70,7 +66,7 @@ fn set(bytes: &[u8], wish: Wish, output: usize) -> Status {
 }
 
 fn export(bytes: &[u8]) -> Status {
-    let mut space = spaces::for_text();
+    let mut space = spaces::for_lines();
     let exported = text::export(bytes, &mut space);
     match exported {
         Exported::Refused(r) => refused(r),
@@ -105,25 +101,11 @@ fn rows(bytes: &[u8], wish: Wish) -> Status {
     list(front(&space, bytes.len()))
 }
 
-fn quote_counts(tally: Tally) {
-    say_number(tally.misses as u64);
-    say_number(tally.written as u64);
-}
-
-fn quote_rule(bytes: &[u8], wish: Wish, rule: u64) {
-    let c = amend::counts(bytes, wish::with(wish, wish::RULE, rule));
-    quote_counts(c.tally);
-}
-
-// A line of a quote: the counts of each rule with so many frames.
+// A line of a quote, with so many frames.
 fn quote_size(bytes: &[u8], wish: Wish, frames: u16) {
-    let sized = wish::with(wish, wish::FRAMES, frames as u64);
+    let numbers = amend::quote_line(bytes, wish, frames as u64);
     say_first(frames as u64);
-    let mut rule: u64 = 0;
-    while rule < QUOTE_RULES {
-        quote_rule(bytes, sized, rule);
-        rule += 1;
-    }
+    lines::say_places(&numbers, 0, amend::QUOTE_NUMBERS);
     say(b"\n");
 }
 
@@ -171,7 +153,7 @@ fn import(request: Request) -> Status {
     if input.failed {
         return Status::Failed;
     }
-    if spaces::TEXT_LIMIT < input.size {
+    if spaces::IMPORT_LIMIT < input.size {
         return files::failed_word(request.files[0], b": File too large\n");
     }
     files::clear_errno();

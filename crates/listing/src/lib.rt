@@ -3,7 +3,7 @@
 ghost use Prim.Native.Nat.{_+_, _<_, _≤_};
 ghost use lib.ListN.{length};
 ghost use mathlib.Core.Path.{_≡_};
-ghost use Rattle.trace.specs.Check.{checkOf};
+ghost use Rattle.trace.specs.Check.{checkOf, numberOfAnswer};
 ghost use Rattle.pool.specs.Pool.{freshOf};
 ghost use Rattle.replay.specs.Calls.{countsOf};
 ghost use Rattle.listing.specs.Fresh.{freshFor};
@@ -202,7 +202,9 @@ fn say_summary(summary: Summary, writes: u32) {
 }
 
 // Prints what a trace is, or that it is refused, and answers the refusal or 0.
-pub fn inspect(bytes: &[u8]) -> u32 {
+pub fn inspect(bytes: &[u8]) -> u32
+    ensures { λ r. ⌜ r ≡ numberOfAnswer (checkOf (now (bytes .entry))) ⌝ }
+{
     let c = trace::check(bytes);
     match c {
         Checked::Refused(r) => {

@@ -1,18 +1,14 @@
--- Laws of decimal numbers: what one character more changes, and that the digits of a number are read as that number.
+-- Laws of decimal numbers: what one character more changes.
 use mathlib.Core.Path.{_≡_, refl, sym, ap, _∙_}
 use mathlib.Core.Bool.{Bool, true, false, _&&_, and-true, and-assoc}
 use mathlib.Core.List.{List, [], _∷_, _++_}
-use Prim.Native.Nat.{ℕ, zero, suc, _+_, _*_, _-_, _/_, _%_, _^_, _≤_, _<_, min}
-use native.Mathlib.Nat.{pow-suc}
+use Prim.Native.Nat.{ℕ, _+_, _*_, _-_, _<_, min}
 use native.Mathlib.Numerals.{add-one}
 use native.Mathlib.Omega.{arith}
-use lib.ListN.{length, getD, take, length-append}
+use lib.ListN.{length, getD, take}
 use lib.Seq.{take-suc}
 use lib.Dec.{ltb}
-use borrow.Author.Tests.{lt-ltb, le-ltb, le-leb}
-use Rattle.io.specs.Digits.{glyph, digits}
 use Rattle.numeral.specs.Numeral.{numberLimit, isDigit, allDigits, valueAfter, numeralOf}
-use Rattle.numeral.specs.declared.Numeral.{Numeral}
 use Rattle.numeral.specs.declared.Numeral.the-variants.{Number, NoNumber}
 
 pub all-snoc : (l : List ℕ) (c : ℕ) → allDigits (l ++ (c ∷ [])) ≡ (allDigits l && isDigit c)

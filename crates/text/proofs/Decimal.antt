@@ -1,4 +1,4 @@
--- A number's decimal digits: how many there are, and that they are read as the number.
+-- A number's decimal digits: how many there are.
 use mathlib.Core.Path.{_≡_, refl, sym, ap, _∙_}
 use mathlib.Core.Bool.{Bool, true, false, _&&_}
 use mathlib.Core.List.{List, [], _∷_, _++_}

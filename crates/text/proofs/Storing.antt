@@ -106,3 +106,7 @@ to-long pages kinds (suc i) =
 pub text-long : (t : Trace) → length (textOf t) ≤ lineRoom * length (t .pages)
 unfolding textOf
 text-long t = to-long (t .pages) (t .kinds) (length (t .pages))
+
+-- any two outcomes that the contract of the text allows are the same
+pub export-one : (s out : List ℕ) (a b : Exported) (out₁ out₂ : List ℕ) → ExportedInto s out a out₁ → ExportedInto s out b out₂ → (a ≡ b) × (out₁ ≡ out₂)
+export-one s out a b out₁ out₂ x y = (x .answers ∙ sym (y .answers), x .bytes-hold ∙ sym (y .bytes-hold))

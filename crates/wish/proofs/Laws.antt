@@ -74,3 +74,8 @@ no-wish s r seed =
       lt-ltb (s .span) 4294967296 (omega (arith, k .span .1)),
       lt-ltb (s .seed) 4294967296 seed,
     )
+
+-- where a number does not fit its field, the settings are out of range
+pub unfit : (ns : List ℕ) → fitFields theFields ns ≡ false → inRange (settingsFitting ns) ≡ false
+unfolding settingsFitting inRange
+unfit ns h = rw h
