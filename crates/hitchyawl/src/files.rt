@@ -289,6 +289,14 @@ fn write_named(name: &[u8], bytes: &[u8]) -> Status {
     write_whole(name, bytes)
 }
 
+// Standard output is not opened again, so that what is written to it before and after stays in its place.
+fn write_out(name: &[u8], bytes: &[u8]) -> Status {
+    if done(io::write_all(libc::STDOUT_FILENO, bytes), name) {
+        return Status::Done;
+    }
+    Status::Failed
+}
+
 // Writes the file that word i names.
 pub fn write(i: usize, bytes: &[u8]) -> Status {
     let mut name = io::buffer();
@@ -296,9 +304,11 @@ pub fn write(i: usize, bytes: &[u8]) -> Status {
     if os::errno() != 0 {
         return too_long(i);
     }
-    if same(&name[..n], b"-") | same(&name[..n], b"/dev/stdout") {
-        io::write_all(libc::STDOUT_FILENO, bytes);
-        return printed(Status::Done);
+    if same(&name[..n], b"-") {
+        return write_out(b"standard output", bytes);
+    }
+    if same(&name[..n], b"/dev/stdout") {
+        return write_out(&name[..n], bytes);
     }
     write_named(&name[..n], bytes)
 }

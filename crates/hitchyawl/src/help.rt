@@ -48,7 +48,8 @@ fn put_import(fd: i32) {
         fd,
         b"\nWrites the trace of a text. A line is `read`, `write`, `pin` or `unpin`, one space and a page\n\
         below 4294967296; empty lines and those that begin with # are passed over. Prints\n\
-        `line N refused` for the first line that is bad.\n\
+        `line N refused` for the first line that is bad. A trace has at most 8000 records, and a text\n\
+        1048576 bytes.\n\
         \n  --order high|low     which byte of a number comes first in the trace: high, if not given\n\
         \nSettings that are not given: lru, 64 frames, batch 8, cap 5, sample 8, weight 2, epoch 100,\n\
         seed 1.\n",
