@@ -279,6 +279,8 @@ fn helps() -> Vec<Case> {
     cases.extend(others.map(|words| Case::of(words).status(0)));
     // As the value of an option and behind `--` it is no option.
     cases.push(Case::of("set --frames --help good new").status(2));
+    cases.push(Case::of("check --frames --help").status(2));
+    cases.push(Case::of("check --frames -- --help").status(0));
     cases.push(Case::of("check -- --help").status(3));
     cases.push(
         Case::of("check -- --help")

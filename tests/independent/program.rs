@@ -58,6 +58,13 @@ impl Command {
         Command::ALL.into_iter().find(named)
     }
 
+    fn takes(self, option: &Taken) -> bool {
+        match option {
+            Taken::Order => self == Import,
+            Taken::Rule | Taken::Number(_) => self.takes_settings(),
+        }
+    }
+
     pub fn takes_settings(self) -> bool {
         matches!(self, Set | Import | Bench | Rows | Quote)
     }
@@ -186,9 +193,13 @@ fn asked(words: &[Bytes]) -> Result<Asked, End> {
             b"--help" => return Err(End::Help(Some(command))),
             b"--" => files.extend(rest.by_ref().cloned()),
             b"-" => files.push(word.clone()),
-            [b'-', ..] => match taken_option(command, word) {
-                // Help still wins over a fault, so the rest is looked through.
-                Some(option) => wrong |= given.take(option, rest.next()).is_none(),
+            [b'-', ..] => match option_named(word) {
+                // Help still wins over a fault, so the rest is looked through. An option has its
+                // value whether the command takes it or not.
+                Some(option) => {
+                    wrong |= !command.takes(&option);
+                    wrong |= given.take(option, rest.next()).is_none();
+                }
                 None => wrong = true,
             },
             _ => files.push(word.clone()),
@@ -210,15 +221,11 @@ enum Taken {
     Number(usize),
 }
 
-fn taken_option(command: Command, word: &[u8]) -> Option<Taken> {
-    if word == b"--order" {
-        return (command == Import).then_some(Taken::Order);
-    }
-    if !command.takes_settings() {
-        return None;
-    }
-    if word == b"--rule" {
-        return Some(Taken::Rule);
+fn option_named(word: &[u8]) -> Option<Taken> {
+    match word {
+        b"--order" => return Some(Taken::Order),
+        b"--rule" => return Some(Taken::Rule),
+        _ => {}
     }
     let mut names = NUMBERS.iter().map(|(name, _)| name.as_bytes());
     names.position(|name| name == word).map(Taken::Number)

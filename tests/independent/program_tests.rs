@@ -527,7 +527,7 @@ fn what_cannot_be_captured_is_not_asked_for() {
     let ran = Ran {
         status: Some(3),
         stdout: Bytes::new(),
-        stderr: b"hitchyawl: standard output: No space left\n".to_vec(),
+        stderr: b"hitchyawl: standard output: No space left on device\n".to_vec(),
     };
     assert!(expect_end(&end, &case, &ran).is_ok());
     let killed = Ran {

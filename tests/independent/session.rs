@@ -435,6 +435,18 @@ fn expect_help(command: Option<Command>, stdout: &[u8]) -> Result<(), String> {
     }
 }
 
+/// What the system says of files that cannot be read or written here.
+const REASONS: [&str; 8] = [
+    "Bad file descriptor",
+    "File name too long",
+    "File too large",
+    "Is a directory",
+    "No space left on device",
+    "No such file or directory",
+    "Not a directory",
+    "Permission denied",
+];
+
 fn expect_stderr(end: &End, stderr: &[u8]) -> Result<(), String> {
     let amiss = |what: &str| Err(format!("standard error {what}: {}", shown(stderr)));
     match end {
@@ -460,6 +472,9 @@ fn expect_stderr(end: &End, stderr: &[u8]) -> Result<(), String> {
             match reason {
                 _ if told.is_empty() || told.contains(&b'\n') => amiss("is not one line"),
                 Some(reason) if told != reason.as_bytes() => amiss("has another reason"),
+                _ if !REASONS.iter().any(|reason| told == reason.as_bytes()) => {
+                    amiss("has no reason")
+                }
                 _ => Ok(()),
             }
         }
