@@ -1,15 +1,11 @@
 // The bench's commands for a person at a shell: the words say what is done to which file. `main` returns nothing, so the
 // status goes to descriptor 3 as a digit.
-mod files;
-mod help;
-mod names;
-mod spaces;
-mod words;
 mod work;
 
 use files::Status;
-use names::Command;
 use words::Request;
+use words::help;
+use words::names::Command;
 
 // Where whoever started the program reads its status.
 const STATUS_FILENO: i32 = 3;

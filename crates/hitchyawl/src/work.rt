@@ -1,13 +1,9 @@
 // What each command does, with a trace that is read for it.
-use crate::files;
-use crate::files::Status;
-use crate::files::front;
-use crate::files::printed;
-use crate::names::Command;
-use crate::spaces;
-use crate::words;
-use crate::words::Request;
 use amend::Imported;
+use files::Status;
+use files::front;
+use files::printed;
+use files::spaces;
 use lines::say;
 use lines::say_first;
 use lines::say_number;
@@ -15,6 +11,8 @@ use lines::say_refused;
 use text::Exported;
 use trace::Checked;
 use wish::Wish;
+use words::Request;
+use words::names::Command;
 
 // A quote has a line for each of eight sizes and the trace's own.
 const QUOTE_LINES: u32 = 9;

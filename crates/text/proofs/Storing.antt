@@ -110,3 +110,9 @@ text-long t = to-long (t .pages) (t .kinds) (length (t .pages))
 -- any two outcomes that the contract of the text allows are the same
 pub export-one : (s out : List ℕ) (a b : Exported) (out₁ out₂ : List ℕ) → ExportedInto s out a out₁ → ExportedInto s out b out₂ → (a ≡ b) × (out₁ ≡ out₂)
 export-one s out a b out₁ out₂ x y = (x .answers ∙ sym (y .answers), x .bytes-hold ∙ sym (y .bytes-hold))
+
+-- with room for the longest line of each record, the text of an accepted trace is not refused
+pub export-grants : (s out : List ℕ) (a : Exported) (out′ : List ℕ) → refusalOf s ≡ 0 → lineRoom * length (traceOf s .pages) ≤ length out → ExportedInto s out a out′
+    → a ≡ Written (length (textOf (traceOf s)))
+unfolding exportRefusal
+export-grants s out a out′ z room i = i .answers ∙ rw (z, le-leb (lineRoom * length (traceOf s .pages)) (length out) room)

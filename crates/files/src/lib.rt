@@ -1,6 +1,7 @@
 // Input and output files, by the number of the word that names them. What fails is told on standard error at once, since
 // errno tells of the last failure alone.
-use crate::spaces;
+pub mod spaces;
+
 use check::same;
 use libc::PATH_MAX;
 

@@ -7,8 +7,8 @@ use mir.Syntax.{w32, w64}
 use mir.Val.{Fits, toZ, ofZ}
 use mir.ValLaws.{toZ-ofZ}
 use borrow.Author.Needs.{needs}
-use Rattle.hitchyawl.proofs.files.natural.Statement.{statement}
-use Rattle.hitchyawl.proofs.files.natural.Tie as tie
+use Rattle.files.proofs.natural.Statement.{statement}
+use Rattle.files.proofs.natural.Tie as tie
 
 natural-sign : (z : ℤ) → T (leZ (pos 0) z) → T (nonNeg z)
 natural-sign (pos n) h = tt

@@ -1,7 +1,7 @@
 use Prim.Native.Nat.{_-_, _≤_}
 use borrow.Author.Needs.{needs}
-use Rattle.hitchyawl.proofs.words.rule_named.Statement.{statement}
-use Rattle.hitchyawl.proofs.words.rule_named.Tie as tie
+use Rattle.words.proofs.rule_named.Statement.{statement}
+use Rattle.words.proofs.rule_named.Tie as tie
 
 abbrev Inv-loop : tie.InvT-loop
 Inv-loop word rule₀ rule = rule ≤ 3

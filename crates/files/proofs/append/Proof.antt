@@ -1,8 +1,8 @@
 use lib.ListN.{length}
 use Prim.Native.Nat.{_-_, _≤_}
 use borrow.Author.Needs.{needs}
-use Rattle.hitchyawl.proofs.files.append.Statement.{statement}
-use Rattle.hitchyawl.proofs.files.append.Tie as tie
+use Rattle.files.proofs.append.Statement.{statement}
+use Rattle.files.proofs.append.Tie as tie
 
 abbrev Inv-loop : tie.InvT-loop
 Inv-loop text₀ at bytes next₀ i₀ text next i = i ≤ length bytes

@@ -1,7 +1,7 @@
 use Prim.Native.Nat.{_-_, _≤_}
 use borrow.Author.Needs.{needs}
-use Rattle.hitchyawl.proofs.words.with_rest.Statement.{statement}
-use Rattle.hitchyawl.proofs.words.with_rest.Tie as tie
+use Rattle.words.proofs.with_rest.Statement.{statement}
+use Rattle.words.proofs.with_rest.Tie as tie
 
 abbrev Inv-loop : tie.InvT-loop
 Inv-loop count r₀ i₀ r i = 2 ≤ i

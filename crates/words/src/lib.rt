@@ -1,12 +1,14 @@
 // The words that the program is started with, as what they ask for.
-use crate::files::fetch;
-use crate::files::front;
-use crate::files::tell;
-use crate::names;
-use crate::names::Command;
-use crate::names::Flag;
-use crate::spaces;
+pub mod help;
+pub mod names;
+
 use check::same;
+use files::fetch;
+use files::front;
+use files::spaces;
+use files::tell;
+use names::Command;
+use names::Flag;
 use numeral::Numeral;
 use wish::Wish;
 use word::Order;

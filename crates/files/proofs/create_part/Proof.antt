@@ -1,7 +1,7 @@
 use Prim.Native.Nat.{_-_, _≤_}
 use borrow.Author.Needs.{needs}
-use Rattle.hitchyawl.proofs.files.create_part.Statement.{statement}
-use Rattle.hitchyawl.proofs.files.create_part.Tie as tie
+use Rattle.files.proofs.create_part.Statement.{statement}
+use Rattle.files.proofs.create_part.Tie as tie
 
 abbrev Inv-loop : tie.InvT-loop
 Inv-loop name part₀ made₀ tries₀ part made tries = tries ≤ 100
