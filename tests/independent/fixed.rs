@@ -62,7 +62,7 @@ written 0
 refused 0
 ";
 
-const LISTING: &str = "\
+pub const LISTING: &str = "\
 rows 5
 1 0 0 0
 1 1 0 0
@@ -124,19 +124,21 @@ fn example_with(order: Order, at: usize, width: usize, number: u32) -> Bytes {
     bytes
 }
 
+/// The settings of an import without options, stated by hand.
+pub const IMPORT_SETTINGS: Settings = Settings {
+    rule: Rule::Lru,
+    frames: 64,
+    batch: 8,
+    cap: 5,
+    sample: 8,
+    weight: 2,
+    epoch: 100,
+    seed: 1,
+};
+
 /// What `import` makes of the example's text.
 fn imported(order: Order) -> Bytes {
-    let settings = Settings {
-        rule: Rule::Lru,
-        frames: 64,
-        batch: 8,
-        cap: 5,
-        sample: 8,
-        weight: 2,
-        epoch: 100,
-        seed: 1,
-    };
-    encode(&settings, order, &RECORDS)
+    encode(&IMPORT_SETTINGS, order, &RECORDS)
 }
 
 /// A trace for each of the refusals 1 to 8.

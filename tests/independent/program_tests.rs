@@ -2,7 +2,7 @@
 //! session finds what is amiss.
 
 use crate::cases::{generated, Case, Output};
-use crate::fixed::{example, fixed};
+use crate::fixed::{example, fixed, IMPORT_SETTINGS};
 use crate::program::*;
 use crate::replay::{check, Kind, Order, Rule, Settings};
 use crate::session::{expect_end, expect_folder, Found, Ran, Seen};
@@ -365,16 +365,6 @@ fn longest_text() {
 #[test]
 fn defaults_of_import() {
     let records = [(7, R), (8, W)];
-    let settings = Settings {
-        rule: Rule::Lru,
-        frames: 64,
-        batch: 8,
-        cap: 5,
-        sample: 8,
-        weight: 2,
-        epoch: 100,
-        seed: 1,
-    };
     let import = |words: &str| match end_of(words, &[("text", b"read 7\nwrite 8\n")]) {
         End::Done {
             out: Some((_, bytes)),
@@ -384,16 +374,16 @@ fn defaults_of_import() {
     };
     assert_eq!(
         import("import text out"),
-        encode(&settings, Order::HighFirst, &records)
+        encode(&IMPORT_SETTINGS, Order::HighFirst, &records)
     );
     assert_eq!(
         import("import --order low text out"),
-        encode(&settings, Order::LowFirst, &records)
+        encode(&IMPORT_SETTINGS, Order::LowFirst, &records)
     );
     let watt = Settings {
         rule: Rule::Watt,
         seed: 0,
-        ..settings
+        ..IMPORT_SETTINGS
     };
     assert_eq!(
         import("import text --rule watt out --seed 0"),

@@ -1,6 +1,7 @@
 //! The paper's examples, a damaged trace for each refusal, the renaming of pages,
 //! and the soundness of the pool after every step of some generated traces.
 
+use crate::fixed::LISTING;
 use crate::renaming::*;
 use crate::replay::*;
 use crate::traces::{self, encode, put, Random};
@@ -133,29 +134,9 @@ const EXAMPLE: [(u32, u32); 5] = [(7, R), (8, W), (7, R), (9, R), (8, R)];
 
 #[test]
 fn printed_example() {
-    let expected = "\
-rows 5
-1 0 0 0
-1 1 0 0
-0 0 0 0
-3 1 8 1
-2 0 7 0
-written 1
-8
-pool 5 0 0
-frames 2
-8 0 0 1 4 : 4 :
-9 0 0 1 3 : 3 :
-hits 1
-misses 4
-evictions 2
-batches 1
-written 1
-refused 0
-";
     for order in BOTH {
         let bytes = encode(&settings(Rule::Lru, 2), order, &EXAMPLE);
-        assert_eq!(listed(&bytes), expected);
+        assert_eq!(listed(&bytes), LISTING);
     }
 }
 
