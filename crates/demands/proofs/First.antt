@@ -30,9 +30,12 @@ use Rattle.pool.specs.declared.Pool.{Pool}
 use Rattle.limit.specs.Limits.{referenceLimit}
 use Rattle.pool.specs.Pool.{frameAt, opened, freshPool, freshOf}
 use Rattle.pool.specs.Sound.{soundPool, poolRefusal}
-use Rattle.pool.proofs.Sound.{Sound, told}
+use Rattle.pool.proofs.Sound.{Sound, told, made}
 use Rattle.pool.proofs.Sizes.{Sized}
-use Rattle.pool.proofs.Opening.{fresh-sound}
+use Rattle.pool.proofs.Opening.{fresh-sound, empty-sound}
+use Rattle.image.specs.Image.{heldRefusal, openedOr, poolOf, heldOf, imageRefusal, imageOf, savingRefusal}
+use Rattle.image.proofs.Again.{read-told}
+use Rattle.image.proofs.Undo.{save-one}
 use Rattle.reference.specs.Search.{findPage}
 use Rattle.tally.specs.declared.Row.{Row}
 use Rattle.tally.specs.declared.Tally.{Tally}
@@ -80,6 +83,10 @@ fresh-refusal x = go (inRange x)
     go true = refl
     go false = refl
 
+one-ranged : inRange oneFrame ≡ true
+unfolding inRange
+one-ranged = refl
+
 module _ (s pages kinds : List ℕ) where
   read-fits : (o : Checked × List ℕ × List ℕ) → ReadInto s pages kinds (o .0) (o .1) (o .2) → numberOfAnswer (o .0) ≡ readRefusal s (length pages) (length kinds)
   read-fits o x = ap numberOfAnswer (x .answers) ∙ number-is (readRefusal s (length pages) (length kinds)) (traceOf s)
@@ -114,6 +121,23 @@ sound-checked p = go (soundPool p)
     go : (b : Bool) → (demand b notSound 0 ≡ 0) ↔ (b ≡ true)
     go true = (λ _. refl, λ _. refl)
     go false = (λ h. absurd (omega arith), λ h. absurd (true≢false (sym h)))
+
+-- an image that is refused, and one that is not
+image-answers : (s : List ℕ) → (imageOf s .refusal ≡ imageRefusal s) × (soundPool (imageOf s .pool) ≡ true) × ((imageRefusal s ≡ 0 → ⊥) → imageOf s .pool ≡ freshPool oneFrame)
+unfolding imageOf
+image-answers s = go (imageRefusal s) refl
+  where
+    go : (r : ℕ) → imageRefusal s ≡ r → (openedOr r (poolOf s) .refusal ≡ r) × (soundPool (openedOr r (poolOf s) .pool) ≡ true) × ((r ≡ 0 → ⊥) → openedOr r (poolOf s) .pool ≡ freshPool oneFrame)
+    go zero e = (refl, read-told s e .1, λ h. absurd (h refl))
+    go (suc r) e = (refl, made (freshPool oneFrame) (empty-sound oneFrame one-ranged), λ h. refl)
+
+held-answers : (s : List ℕ) → (heldOf s .refusal ≡ heldRefusal s) × ((heldRefusal s ≡ 0 → ⊥) → heldOf s .pool ≡ freshPool oneFrame)
+unfolding heldOf
+held-answers s = go (heldRefusal s)
+  where
+    go : (r : ℕ) → (openedOr r (poolOf s) .refusal ≡ r) × ((r ≡ 0 → ⊥) → openedOr r (poolOf s) .pool ≡ freshPool oneFrame)
+    go zero = (refl, λ h. absurd (h refl))
+    go (suc r) = (refl, λ h. refl)
 
 calls : Calls
 calls = record {
@@ -156,6 +180,14 @@ calls = record {
   };
   check = number-checked;
   fresh = λ x. (fresh-refusal x, fresh-sound x);
+  image = image-answers;
+  held = held-answers;
+  save = λ p o out. record {
+    ends = ((_, _), record { answers = refl; bytes-hold = refl });
+    one = λ a b x y. let e = save-one p o out (a .0) (b .0) (a .1) (b .1) x y in λ i. (e .0 i, e .1 i);
+    fits = λ a x. x .answers;
+    still = λ a x ne. x .bytes-hold ∙ rw (past (savingRefusal p (length out)) (λ e. ne (x .answers ∙ e)) .1);
+  };
   pool-check = sound-checked;
 }
 

@@ -33,8 +33,9 @@ use Rattle.replay.specs.Replay.{Played}
 use Rattle.replay.specs.Calls.{stepRefusal, steppedOf, StepInto, ReplayInto}
 use Rattle.replay.proofs.Laws.{replay-none, replay-suc}
 use Rattle.worked.proofs.Settled.{ran, each-record, each-page, counts-agree, tally-counts}
-use Rattle.rename.specs.Sameness.{Stored}
-use Rattle.demands.specs.Second.{AreBytes, given, Traces, AllRecords, SecondDemand}
+use Rattle.image.proofs.Undo.{save-grants, save-read, read-encodes, read-sound, read-save, one-image}
+use Rattle.rename.specs.Sameness.{AreBytes, Stored}
+use Rattle.demands.specs.Second.{given, Traces, Images, AllRecords, SecondDemand}
 use Rattle.demands.proofs.First.{step-fits}
 
 -- ---- traces
@@ -78,6 +79,17 @@ traces = record {
       convert-convert s 0 mid′ out r out′ refl (converts-back s mid 0 mid′ (bytes-of s bytes) x) (let n = length-take (length s) mid′ in omega arith) y;
 }
 
+-- ---- images
+
+images : Images
+images = record {
+  written = λ p o out out′ x. save-grants p o out out′ x .2;
+  read = λ s bytes z. (read-encodes s (bytes-of s bytes) z, read-sound s (bytes-of s bytes) z);
+  read-back = λ p o out out′ ty x. save-read p o out out′ ty x;
+  write-back = λ s bytes z. read-save s (bytes-of s bytes) z;
+  one = λ s₁ s₂ b₁ b₂. one-image s₁ s₂ (bytes-of s₁ b₁) (bytes-of s₂ b₂);
+}
+
 -- ---- records
 
 module _ (p : Pool) (t : Tally) (s : List ℕ) (stored : Stored p s) (rows written : List ℕ) (r : Ended) (rows′ written′ : List ℕ)
@@ -112,4 +124,4 @@ exact a b = (ltb-true (a .num * b .den) (b .num * a .den), lt-ltb (a .num * b .d
 
 -- the theorem
 pub second-demand : SecondDemand
-second-demand = record { traces = traces; replay = replayed; counts = counts-agree; step = stepped; values = exact }
+second-demand = record { traces = traces; images = images; replay = replayed; counts = counts-agree; step = stepped; values = exact }

@@ -10,15 +10,17 @@ use lib.ListN.{length}
 use Rattle.search.specs.declared.Found.the-variants.{Nothing}
 use Rattle.refusal.specs.Refusals.{demand, outOfRange, noFrame}
 use Rattle.settings.specs.declared.Settings.{Settings}
-use Rattle.settings.specs.Settings.{inRange}
+use Rattle.settings.specs.Settings.{inRange, oneFrame}
 use Rattle.trace.specs.Layout.{Trace, recordIn}
 use Rattle.trace.specs.declared.Checked.{Checked}
 use Rattle.trace.specs.Check.{refusalOf, traceOf, numberOfAnswer, checkOf, readRefusal, ReadInto}
 use Rattle.scribe.specs.Write.{writeRefusal, WrittenTo, convertRefusal, ConvertedTo}
 use Rattle.pool.specs.declared.Pool.{Pool}
 use Rattle.limit.specs.Limits.{referenceLimit}
-use Rattle.pool.specs.Pool.{frameAt, freshOf}
+use Rattle.pool.specs.Pool.{frameAt, freshPool, freshOf}
 use Rattle.pool.specs.Sound.{soundPool, poolRefusal}
+use Rattle.word.specs.declared.Order.{Order}
+use Rattle.image.specs.Image.{heldRefusal, heldOf, imageRefusal, imageOf, savingRefusal, SavedTo}
 use Rattle.reference.specs.Search.{findPage}
 use Rattle.tally.specs.declared.Row.{Row}
 use Rattle.tally.specs.declared.Tally.{Tally}
@@ -71,6 +73,11 @@ pub record Calls : Type 0 where
   pub check : (s : List ℕ) → numberOfAnswer (checkOf s) ≡ refusalOf s
   -- nor is `pool::fresh`; what it hands back is sound, refused or not
   pub fresh : (x : Settings) → (freshOf x .refusal ≡ demand (inRange x) outOfRange 0) × (soundPool (freshOf x .pool) ≡ true)
+  -- `image::read` and `image::held` are lent nothing; what `image::read` hands back is sound, and where it or `image::held` refuses it is the pool of one frame
+  pub image : (s : List ℕ) → (imageOf s .refusal ≡ imageRefusal s) × (soundPool (imageOf s .pool) ≡ true) × ((imageRefusal s ≡ 0 → ⊥) → imageOf s .pool ≡ freshPool oneFrame)
+  pub held : (s : List ℕ) → (heldOf s .refusal ≡ heldRefusal s) × ((heldRefusal s ≡ 0 → ⊥) → heldOf s .pool ≡ freshPool oneFrame)
+  -- `image::write`
+  pub save : (p : Pool) (o : Order) (out : List ℕ) → Call (ℕ × List ℕ) (λ r. SavedTo p o out (r .0) (r .1)) (λ r. r .0) (savingRefusal p (length out)) (λ r. r .1 ≡ out)
   -- `pool::check`: 0 exactly for a sound pool
   pub pool-check : (p : Pool) → (poolRefusal p ≡ 0) ↔ (soundPool p ≡ true)
 

@@ -16,7 +16,12 @@ use Rattle.trace.specs.declared.Checked.{Checked}
 use Rattle.trace.specs.declared.Checked.the-variants.{Accepted}
 use Rattle.trace.specs.Check.{traceOf, summaryOf, checkOf, ReadInto}
 use Rattle.scribe.specs.Write.{WrittenTo, ConvertedTo}
+use Rattle.word.specs.declared.Order.{Order}
 use Rattle.pool.specs.declared.Pool.{Pool}
+use Rattle.pool.specs.Pool.{opened}
+use Rattle.pool.specs.Sound.{soundPool}
+use Rattle.image.specs.Layout.{imageLength, usedIn, encodePool}
+use Rattle.image.specs.Image.{orderOf, imageOf, SavedTo, Typed}
 use Rattle.tally.specs.declared.Tally.{Tally}
 use Rattle.tally.specs.Tally.{countedBy, countedRows}
 use Rattle.effect.specs.Record.{Did, recordOf}
@@ -25,14 +30,11 @@ use Rattle.replay.specs.declared.Ended.{Ended}
 use Rattle.replay.specs.Replay.{started, replayTo, replayOf}
 use Rattle.replay.specs.Calls.{StepInto, countsOf, ReplayInto}
 use Rattle.worked.specs.Rows.{rowIn}
-use Rattle.rename.specs.Sameness.{Stored}
+use Rattle.rename.specs.Sameness.{AreBytes, Stored}
 
 -- ---- traces
 
--- what the types say of bytes, and of a seed and pages: numbers of 1 byte, and of 4
-abbrev pub AreBytes : List ℕ → Type 0
-AreBytes s = (i : ℕ) → getD s i 0 < 256
-
+-- what the types say of a seed and of pages: numbers of 4 bytes
 abbrev pub FourBytes : Trace → Type 0
 FourBytes t = (t .settings .seed < 4294967296) × ((i : ℕ) → getD (t .pages) i 0 < 4294967296)
 
@@ -59,6 +61,21 @@ pub record Traces : Type 0 where
   -- "converting twice gives the first bytes again", the second time too with the file length lent
   pub convert-back : (s mid mid′ : List ℕ) → AreBytes s → ConvertedTo s mid 0 mid′
       → (out : List ℕ) → length s ≤ length out → (r : ℕ) (out′ : List ℕ) → ConvertedTo (take (length s) mid′) out r out′ → (r ≡ 0) × (out′ ≡ sets out 0 s)
+
+-- ---- images
+
+pub record Images : Type 0 where
+  -- writing follows the published layout
+  pub written : (p : Pool) (o : Order) (out out′ : List ℕ) → SavedTo p o out 0 out′ → out′ ≡ sets out 0 (encodePool o p)
+  -- reading follows it: what is accepted is the encoding of what is read, a sound pool
+  pub read : (s : List ℕ) → AreBytes s → imageOf s .refusal ≡ 0 → (encodePool (orderOf s) (imageOf s .pool) ≡ s) × (soundPool (imageOf s .pool) ≡ true)
+  -- "reading and writing undo each other": what a writer stored is read as the pool that it was given
+  pub read-back : (p : Pool) (o : Order) (out out′ : List ℕ) → Typed p → SavedTo p o out 0 out′ → imageOf (take (imageLength (usedIn p)) out′) ≡ opened 0 p
+  -- and what a reader gave is stored by a writer that is lent the file length as the bytes that were read
+  pub write-back : (s : List ℕ) → AreBytes s → imageOf s .refusal ≡ 0
+      → (out : List ℕ) → length s ≤ length out → (r : ℕ) (out′ : List ℕ) → SavedTo (imageOf s .pool) (orderOf s) out r out′ → (r ≡ 0) × (out′ ≡ sets out 0 s)
+  -- "one encoding per sound pool and order"
+  pub one : (s₁ s₂ : List ℕ) → AreBytes s₁ → AreBytes s₂ → imageOf s₁ .refusal ≡ 0 → imageOf s₂ .refusal ≡ 0 → orderOf s₁ ≡ orderOf s₂ → imageOf s₁ .pool ≡ imageOf s₂ .pool → s₁ ≡ s₂
 
 -- ---- records
 
@@ -93,6 +110,7 @@ module _ (p : Pool) (t : Tally) (trace : Trace) where
 
 pub record SecondDemand : Type 0 where
   pub traces : Traces
+  pub images : Images
   pub replay : (p : Pool) (t : Tally) (s : List ℕ) → Stored p s → (rows written : List ℕ) (r : Ended) (rows′ written′ : List ℕ)
       → ReplayInto p t s rows written r rows′ written′ → r .refusal ≡ 0 → AllRecords p t (traceOf s) r rows′ written′
   -- replay to counts comes to the same pool and counts

@@ -1,15 +1,15 @@
 -- The third demand: "Only sameness of page numbers counts: renaming pages one-to-one renames the answer and changes nothing else, under every rule."
-use Prim.Native.Nat.{ℕ, _<_}
+use Prim.Native.Nat.{ℕ}
 use mathlib.Core.Path.{_≡_}
 use mathlib.Core.List.{List}
-use lib.ListN.{getD}
 use Rattle.word.specs.declared.Order.{Order}
 use Rattle.trace.specs.Check.{refusalOf, traceOf}
 use Rattle.fresh.specs.Fresh.{freshCounts}
 use Rattle.host.specs.Counts.{CountsInto}
 use Rattle.rename.specs.Renamed.{renamedBytes}
-use Rattle.rename.specs.Sameness.{Renames, Demand}
+use Rattle.rename.specs.Sameness.{AreBytes, Renames, Demand}
 use Rattle.rename.specs.Calls.{ReplayDemand, CountsDemand, StepDemand}
+use Rattle.rename.specs.Images.{SavedDemand, LoadedDemand, ImageDemand}
 
 -- from a fresh pool: the six counts stay as they were, and `hitchyawl_counts` answers the renamed bytes, written in an order, as it does the bytes given;
 -- written in their own order, they have the same bytes stored
@@ -20,12 +20,15 @@ pub record SameCounts (ρ : ℕ → ℕ) (s : List ℕ) (o : Order) : Type 0 whe
 
 -- a fresh pool has no pages: of an accepted trace, with ρ one-to-one on its pages; bytes are below 256
 abbrev pub FreshDemand : Type 0
-FreshDemand = (ρ : ℕ → ℕ) (s : List ℕ) → ((i : ℕ) → getD s i 0 < 256) → refusalOf s ≡ 0 → Renames ρ (traceOf s .pages) → (o : Order) → SameCounts ρ s o
+FreshDemand = (ρ : ℕ → ℕ) (s : List ℕ) → AreBytes s → refusalOf s ≡ 0 → Renames ρ (traceOf s .pages) → (o : Order) → SameCounts ρ s o
 
--- the demand: of the definition of a replay, of the calls by their contracts, and of the transport's counts
+-- the demand: of the definition of a replay, of the calls by their contracts, of the transport's counts, and of images
 pub record ThirdDemand : Type 0 where
   pub replays : Demand
   pub replay : ReplayDemand
   pub counts : CountsDemand
   pub step : StepDemand
   pub transport : FreshDemand
+  pub saved : SavedDemand
+  pub loaded : LoadedDemand
+  pub image : ImageDemand

@@ -22,7 +22,7 @@ fn copy4(out: &mut [u8], m: &[u8; 4])
     out[3] = m[3];
 }
 
-fn put_mark(out: &mut [u8], order: Order)
+pub fn put_mark(out: &mut [u8], order: Order)
     requires { ⌜ 4 ≤ length (now out) ⌝ }
     ensures { λ _. ⌜ now (out .exit) ≡ sets (now (out .entry)) 0 (markBytes order) ⌝ }
 {

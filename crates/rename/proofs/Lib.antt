@@ -10,3 +10,4 @@ pub mod Calls
 pub mod Steps
 pub mod Composed
 pub mod Needed
+pub mod Images

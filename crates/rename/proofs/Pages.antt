@@ -18,7 +18,7 @@ use Rattle.rename.specs.Sameness.{residentPages, pagesTogether}
 use Rattle.rename.proofs.Frames.{AllListed}
 
 -- the page of a frame in use is resident
-residents-listed : (fs : List Frame) → AllListed (residentPages fs) fs
+pub residents-listed : (fs : List Frame) → AllListed (residentPages fs) fs
 unfolding residentPages among
 residents-listed [] i u = absurd (false≢true u)
 residents-listed (fr ∷ fs) zero u =

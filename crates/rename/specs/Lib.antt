@@ -3,3 +3,4 @@ pub mod Sameness
 pub mod Needed
 pub mod Calls
 pub mod Composed
+pub mod Images

@@ -31,9 +31,13 @@ pub record Renames (ρ : ℕ → ℕ) (pages : List ℕ) : Type 0 where
   pub one-to-one : (a b : ℕ) → among pages a ≡ true → among pages b ≡ true → ρ a ≡ ρ b → a ≡ b
   pub four-bytes : (a : ℕ) → among pages a ≡ true → ρ a < 4294967296
 
+-- what the types say of bytes: they are below 256
+abbrev pub AreBytes : List ℕ → Type 0
+AreBytes s = (i : ℕ) → getD s i 0 < 256
+
 -- what the types say of a pool and of bytes: the lengths of a pool's arrays, and that bytes are below 256
 pub record Stored (p : Pool) (s : List ℕ) : Type 0 where
-  pub bytes : (i : ℕ) → getD s i 0 < 256
+  pub bytes : AreBytes s
   pub frames : length (p .frames) ≡ frameRoom
   pub access : length (p .access) ≡ frameRoom * accessRoom
   pub write : length (p .write) ≡ frameRoom * writeRoom

@@ -5,3 +5,4 @@ pub mod Begins
 pub mod Stepping
 pub mod Counting
 pub mod Calling
+pub mod Joined

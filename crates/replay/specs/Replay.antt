@@ -2,7 +2,7 @@
 use Prim.Native.Nat.{ℕ, zero, suc}
 use mathlib.Core.List.{List, [], _∷_, _++_}
 use lib.ListN.{length}
-use Rattle.trace.specs.Layout.{Trace, recordIn}
+use Rattle.trace.specs.Layout.{Trace, traceFrom, recordIn}
 use Rattle.pool.specs.declared.Pool.{Pool}
 use Rattle.tally.specs.declared.Row.{Row}
 use Rattle.tally.specs.declared.Tally.{Tally}
@@ -36,6 +36,14 @@ module _ (p : Pool) (t : Tally) (trace : Trace) where
   -- all records
   abbrev pub replayOf : Played
   replayOf = replayTo (length (trace .pages))
+
+-- the records of one trace, then those of another
+abbrev pub joined : Trace → Trace → Trace
+joined a b = traceFrom (a .settings) (a .order) (a .pages ++ b .pages) (a .kinds ++ b .kinds)
+
+-- a replay, and another that went on from its pool and tally
+abbrev pub goneOn : Played → Played → Played
+goneOn r q = record { rows = r .rows ++ q .rows; written = r .written ++ q .written; pool = q .pool; tally = q .tally }
 
 -- the numbers of rows, four each
 unfoldable pub rowsNumbers : List Row → List ℕ

@@ -52,7 +52,7 @@ low-found true b h = absurd (let z : _≡_ {A = ℕ} 0 1 = cc in omega arith)
 low-found false true h = refl
 low-found false false h = absurd (let z : _≡_ {A = ℕ} 0 1 = cc in omega arith)
 
-mark-again : (o : Order) (s : List ℕ) → 4 ≤ length s → markOf s ≡ Known o → take 4 s ≡ markBytes o
+pub mark-again : (o : Order) (s : List ℕ) → 4 ≤ length s → markOf s ≡ Known o → take 4 s ≡ markBytes o
 unfolding first4
 mark-again High s h e = part 4 0 s (omega arith) ∙ begins-is s markHigh (high-found (begins s markHigh) (begins s markLow) e)
 mark-again Low s h e = part 4 0 s (omega arith) ∙ begins-is s markLow (low-found (begins s markHigh) (begins s markLow) e)

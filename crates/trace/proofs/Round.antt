@@ -5,13 +5,13 @@ use mathlib.Core.Logic.{⊎-elim, _⊎_}
 use Prim.Native.Nat.{ℕ, zero, suc, _+_, _*_, _≤_, _<_}
 use native.Mathlib.Nat.{add-zero, add-assoc, eq-or-lt-of-le}
 use native.Mathlib.Omega.{arith}
-use lib.ListN.{length, getD, drop, length-drop}
-use lib.Seq.{drop-append-le, take-append-le, drop-append-add}
+use lib.ListN.{length, getD}
 use borrow.Author.Tests.{eq-eqb, le-leb}
 use Rattle.word.specs.Number.{numberAt, numberOf, bytesOf}
 use Rattle.word.specs.declared.Order.{Order}
 use Rattle.word.specs.declared.Order.the-variants.{High, Low}
 use Rattle.word.proofs.Laws.{number-back}
+use Rattle.word.proofs.Places.{in-front, behind}
 use Rattle.settings.specs.declared.Settings.{Settings}
 use Rattle.settings.specs.Settings.{settingsBytes}
 use Rattle.settings.proofs.Places.{settings-back}
@@ -23,17 +23,6 @@ use Rattle.trace.specs.declared.Mark.the-variants.{Known}
 use Rattle.trace.proofs.Lists.{upTo-is, all-zero, writes-le, known-le}
 use Rattle.trace.proofs.Accept.{trace-is}
 use Rattle.trace.proofs.Sizes.{length-front, length-header, length-records, length-encode}
-
--- ---- a place in the front, and a place behind
-
-in-front : (o : Order) (w at : ℕ) (xs ys : List ℕ) → at + w ≤ length xs → numberAt o w at (xs ++ ys) ≡ numberAt o w at xs
-in-front o w at xs ys h =
-    let h₁ : at ≤ length xs = omega arith in
-    let h₂ : w ≤ length (drop at xs) = simp length-drop (omega arith) in
-    rw (drop-append-le at xs ys h₁, take-append-le w (drop at xs) ys h₂)
-
-behind : (o : Order) (w k m : ℕ) (xs ys : List ℕ) → length xs ≡ m → numberAt o w (m + k) (xs ++ ys) ≡ numberAt o w k ys
-behind o w k m xs ys e = rw (← e, drop-append-add)
 
 -- a field of record i, among the first n
 record-read : (o : Order) (pages kinds : List ℕ) (w k i n : ℕ) → k + w ≤ 8 → i < n

@@ -11,7 +11,7 @@ use settings::Settings;
 use word::Order;
 
 // What the first four bytes say.
-enum Mark {
+pub enum Mark {
     Known(Order),
     Unknown,
 }
@@ -74,7 +74,7 @@ fn mark_found(high: bool, low: bool) -> Mark
     Mark::Unknown
 }
 
-fn mark_of(s: &[u8]) -> Mark
+pub fn mark_of(s: &[u8]) -> Mark
     requires { ⌜ 4 ≤ length (now s) ⌝ }
     ensures { λ r. ⌜ r ≡ markOf (now (s .entry)) ⌝ }
 {

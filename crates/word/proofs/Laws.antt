@@ -100,12 +100,12 @@ length-bytes High w v = length-reverse (bytesLow w v) ∙ length-low w v
 length-bytes Low w v = length-low w v
 
 -- a run of stores after another is one run
-sets-more : (xs ys l : List ℕ) (i j : ℕ) → j ≡ i + length xs → sets (sets l i xs) j ys ≡ sets l i (xs ++ ys)
+sets-more {ℓ} : {A : Type ℓ} (xs ys l : List A) (i j : ℕ) → j ≡ i + length xs → sets (sets l i xs) j ys ≡ sets l i (xs ++ ys)
 sets-more [] ys l i j e = let e′ : j ≡ i = omega arith in rw e′
 sets-more (x ∷ xs) ys l i j e = sets-more xs ys (set l i x) (suc i) j (omega arith)
 
 -- the same from right to left: a run of stores in two, for `simp`
-pub sets-append : (xs ys l : List ℕ) (i : ℕ) → sets l i (xs ++ ys) ≡ sets (sets l i xs) (i + length xs) ys
+pub sets-append {ℓ} : {A : Type ℓ} (xs ys l : List A) (i : ℕ) → sets l i (xs ++ ys) ≡ sets (sets l i xs) (i + length xs) ys
 sets-append xs ys l i = sym (sets-more xs ys l i (i + length xs) refl)
 
 -- what a run of stores at the front left there

@@ -4,7 +4,7 @@ use mathlib.Core.List.{List, _++_, append-assoc}
 use Prim.Native.Nat.{ℕ, _+_, _^_, _≤_, _<_}
 use native.Mathlib.Omega.{arith}
 use lib.ListN.{length, take, drop, length-drop, take-append-drop}
-use lib.Seq.{sets, sets-eq, length-take-le, take-at, drop-at, drop-drop}
+use lib.Seq.{sets, sets-eq, length-take-le, take-at, drop-at, drop-drop, drop-append-le, take-append-le, drop-append-add}
 use Rattle.word.specs.Number.{numberAt, bytesOf}
 use Rattle.word.proofs.Laws.{Bytes, number-back, bytes-again, length-bytes, bytes-take, bytes-drop}
 use Rattle.word.specs.declared.Order.{Order}
@@ -52,3 +52,14 @@ module _ (o : Order) (at : ℕ) (l : List ℕ) where
 
   pub written-read-4 : at + 4 ≤ length l → Bytes l → sets l at (bytesOf o 4 (numberAt o 4 at l)) ≡ l
   written-read-4 h = written-read o 4 at l h
+
+-- ---- a place in the front, and a place behind
+
+pub in-front : (o : Order) (w at : ℕ) (xs ys : List ℕ) → at + w ≤ length xs → numberAt o w at (xs ++ ys) ≡ numberAt o w at xs
+in-front o w at xs ys h =
+    let h₁ : at ≤ length xs = omega arith in
+    let h₂ : w ≤ length (drop at xs) = simp length-drop (omega arith) in
+    rw (drop-append-le at xs ys h₁, take-append-le w (drop at xs) ys h₂)
+
+pub behind : (o : Order) (w k m : ℕ) (xs ys : List ℕ) → length xs ≡ m → numberAt o w (m + k) (xs ++ ys) ≡ numberAt o w k ys
+behind o w k m xs ys e = rw (← e, drop-append-add)

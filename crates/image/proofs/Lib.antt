@@ -1,0 +1,4 @@
+pub mod Laws
+pub mod Back
+pub mod Again
+pub mod Undo
