@@ -4,13 +4,21 @@
 //! more with the pages renamed. It also runs the program `hitchyawl` as its users
 //! do, and holds all that comes of it against what must come.
 
+mod batches;
+mod calls;
 mod cases;
+mod compare_calls;
 #[cfg(test)]
 mod edges;
 mod fixed;
+mod image;
+#[cfg(test)]
+mod image_tests;
+mod pools;
 mod program;
 #[cfg(test)]
 mod program_tests;
+mod rare;
 mod renaming;
 mod replay;
 mod session;
@@ -34,7 +42,11 @@ usage: listing < TRACE
        makeseries SEED > ITEMS
        stored > ITEMS
        skewed lru|clock|watt high|low > TRACE
+       calls < CALLS
+       makecalls SEED > CALLS
+       storedcalls > CALLS
        compare HITCHYAWL-PROGRAM BENCH-PROGRAM SERIES-PROGRAM FIRST COUNT SERIESCOUNT
+       comparecalls CALLS-PROGRAM FIRST COUNT
        session HITCHYAWL FOLDER FIRST COUNT";
 
 fn main() -> ExitCode {
@@ -81,11 +93,32 @@ fn run(arguments: &[&str]) -> Result<(), Box<dyn Error>> {
             };
             stdout.write_all(&traces::for_timing(&load, order))?;
         }
+        ["calls"] => {
+            let answers: Vec<_> = calls::calls_of(&all_of_stdin()?)
+                .iter()
+                .map(calls::answer)
+                .collect();
+            stdout.write_all(calls::printed(&answers).as_bytes())?;
+        }
+        ["makecalls", seed] => {
+            for made in batches::batch(seed.parse()?) {
+                stdout.write_all(&made.call.to_bytes())?;
+            }
+        }
+        ["storedcalls"] => {
+            for call in batches::stored() {
+                stdout.write_all(&call.to_bytes())?;
+            }
+        }
         ["compare", hitchyawl, bench, series, first, count, series_count] => {
             let first: u64 = first.parse()?;
             let (count, series_count) = (count.parse::<u64>()?, series_count.parse::<u64>()?);
             drop(stdout);
             compare([hitchyawl, bench, series], first, count, series_count)?;
+        }
+        ["comparecalls", program, first, count] => {
+            drop(stdout);
+            compare_calls::compare(program, first.parse()?, count.parse()?)?;
         }
         ["session", hitchyawl, folder, first, count] => {
             drop(stdout);
