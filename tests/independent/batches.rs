@@ -553,7 +553,8 @@ pub fn field_things() -> Vec<String> {
 
 // ----------------------------------------------------------------- two faults
 
-const REFUSALS: [u32; 6] = [1, 2, 3, 5, 6, 14];
+/// Of an image.
+pub const REFUSALS: [u32; 6] = [1, 2, 3, 5, 6, 14];
 
 /// Each lower refusal with each higher one.
 fn pairs() -> impl Iterator<Item = (u32, u32)> {
@@ -571,7 +572,7 @@ pub fn fault_pairs() -> impl Iterator<Item = String> {
 
 /// Spoils an image of at least one entry so that a reader that looks for nothing else
 /// refuses it by this number.
-fn spoil(random: &mut Random, image: &mut Vec<u8>, order: Order, refusal: u32) {
+pub fn spoil(random: &mut Random, image: &mut Vec<u8>, order: Order, refusal: u32) {
     let entries = (image.len() - HEADER) / ENTRY;
     let entry = length_of(random.place(entries));
     let wrong = |image: &mut Vec<u8>, (at, width, number): (usize, usize, u32)| {

@@ -11,6 +11,7 @@ mod compare_calls;
 #[cfg(test)]
 mod edges;
 mod fixed;
+mod fixed_images;
 mod image;
 #[cfg(test)]
 mod image_tests;
@@ -176,21 +177,11 @@ fn list_series(bytes: &[u8], watch: &mut dyn FnMut(&Replay)) -> String {
     text
 }
 
-impl fmt::Display for Replayed<'_> {
+/// As the lines of a listing from `pool` on.
+impl fmt::Display for Pool {
     fn fmt(&self, to: &mut fmt::Formatter) -> fmt::Result {
-        writeln!(to, "rows {}", self.rows.len())?;
-        for [outcome, frame, left, batch] in &self.rows {
-            writeln!(to, "{outcome} {frame} {left} {batch}")?;
-        }
-        writeln!(to, "written {}", self.written.len())?;
-        for page in &self.written {
-            writeln!(to, "{page}")?;
-        }
-        let Pool {
-            k, hand, sampler, ..
-        } = self.pool;
-        writeln!(to, "pool {k} {hand} {sampler}")?;
-        let in_use = self.pool.frames.iter().filter(|frame| frame.in_use);
+        writeln!(to, "pool {} {} {}", self.k, self.hand, self.sampler)?;
+        let in_use = self.frames.iter().filter(|frame| frame.in_use);
         writeln!(to, "frames {}", in_use.clone().count())?;
         for frame in in_use {
             let dirty = u8::from(frame.dirty);
@@ -204,6 +195,21 @@ impl fmt::Display for Replayed<'_> {
             }
             writeln!(to)?;
         }
+        Ok(())
+    }
+}
+
+impl fmt::Display for Replayed<'_> {
+    fn fmt(&self, to: &mut fmt::Formatter) -> fmt::Result {
+        writeln!(to, "rows {}", self.rows.len())?;
+        for [outcome, frame, left, batch] in &self.rows {
+            writeln!(to, "{outcome} {frame} {left} {batch}")?;
+        }
+        writeln!(to, "written {}", self.written.len())?;
+        for page in &self.written {
+            writeln!(to, "{page}")?;
+        }
+        write!(to, "{}", self.pool)?;
         writeln!(to, "hits {}", self.tally.hits)?;
         writeln!(to, "misses {}", self.tally.misses)?;
         writeln!(to, "evictions {}", self.tally.evictions)?;
