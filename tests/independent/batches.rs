@@ -15,21 +15,22 @@ use crate::pools::{absent_page, left_at, left_by_a_replay, made_up, made_up_of, 
 use crate::pools::{trace_for, PLAIN};
 use crate::replay::{check, go_on, Order, Rule, Settings, MOST_REFERENCES, RECORD};
 use crate::traces::{self, put, some_order, some_settings, Random, PIN, READ, UNPIN, WRITE};
+use std::collections::BTreeMap;
 
 /// A call and what it was made for.
-pub struct Made {
+pub struct Trial {
     pub call: Call,
     pub sort: String,
 }
 
-fn made(sort: &str, call: Call) -> Made {
-    Made {
+fn trial(sort: &str, call: Call) -> Trial {
+    Trial {
         call,
         sort: sort.to_string(),
     }
 }
 
-type Maker = fn(&mut Random, usize) -> Vec<Made>;
+type Maker = fn(&mut Random, usize) -> Vec<Trial>;
 
 /// What the batches are by turns. Most images are replayed from in those that come up
 /// several times.
@@ -53,7 +54,7 @@ const MAKERS: [Maker; 16] = [
 ];
 
 /// The calls of a seed.
-pub fn batch(seed: u64) -> Vec<Made> {
+pub fn batch(seed: u64) -> Vec<Trial> {
     let makers = MAKERS.len() as u64;
     let random = &mut Random::new(seed ^ (1 << 61));
     MAKERS[(seed % makers) as usize](random, (seed / makers) as usize)
@@ -73,7 +74,7 @@ fn settings_by_turn(random: &mut Random, turn: usize) -> Settings {
 /// How many pools a batch has all calls on.
 const POOLS: usize = 6;
 
-fn on_pools_of_replays(random: &mut Random, turn: usize) -> Vec<Made> {
+fn on_pools_of_replays(random: &mut Random, turn: usize) -> Vec<Trial> {
     let mut calls = Vec::new();
     for number in 0..POOLS {
         let settings = settings_by_turn(random, turn + number);
@@ -84,7 +85,7 @@ fn on_pools_of_replays(random: &mut Random, turn: usize) -> Vec<Made> {
 }
 
 /// One pool that real replays left, some references before the last one or none.
-fn on_pools_at_the_end(random: &mut Random, turn: usize) -> Vec<Made> {
+fn on_pools_at_the_end(random: &mut Random, turn: usize) -> Vec<Trial> {
     let before = [1, 0, 12][turn % 3];
     let settings = settings_by_turn(random, turn / 3 + turn);
     let held = left_at(random, settings, MOST_REFERENCES - before);
@@ -99,7 +100,7 @@ fn on_pools_at_the_end(random: &mut Random, turn: usize) -> Vec<Made> {
     calls
 }
 
-fn on_made_up_pools(random: &mut Random, turn: usize) -> Vec<Made> {
+fn on_made_up_pools(random: &mut Random, turn: usize) -> Vec<Trial> {
     let mut calls = Vec::new();
     for number in 0..POOLS {
         let settings = settings_by_turn(random, turn + number);
@@ -110,14 +111,14 @@ fn on_made_up_pools(random: &mut Random, turn: usize) -> Vec<Made> {
 }
 
 /// All calls on a sound pool, its image in either order.
-fn all_calls(random: &mut Random, turn: usize, sort: &str, held: &Held) -> Vec<Made> {
+fn all_calls(random: &mut Random, turn: usize, sort: &str, held: &Held) -> Vec<Trial> {
     let image = held.encode(some_order(random));
     let mut calls = vec![Call::new(What::Read, &image)];
     calls.push(Call::new(What::Check, &image));
     calls.extend(writes(random, &image));
     calls.extend(replays(random, turn, held, &image));
     calls.extend(steps(random, turn, held, &image));
-    calls.into_iter().map(|call| made(sort, call)).collect()
+    calls.into_iter().map(|call| trial(sort, call)).collect()
 }
 
 /// Writes with exact room, a byte less, and more or none.
@@ -388,15 +389,15 @@ fn some_trace(random: &mut Random, held: &Held) -> Vec<u8> {
 }
 
 /// The reading of an image and another call on it, each by turns.
-fn read_and_another(random: &mut Random, turn: usize, sort: &str, image: &[u8]) -> [Made; 2] {
+fn read_and_another(random: &mut Random, turn: usize, sort: &str, image: &[u8]) -> [Trial; 2] {
     let what = What::ALL[1 + turn % 5];
     [
-        made(sort, Call::new(What::Read, image)),
-        made(sort, some_call(random, what, image)),
+        trial(sort, Call::new(What::Read, image)),
+        trial(sort, some_call(random, what, image)),
     ]
 }
 
-fn header_edges(random: &mut Random, turn: usize) -> Vec<Made> {
+fn header_edges(random: &mut Random, turn: usize) -> Vec<Trial> {
     let held = small_pool(random, turn);
     let order = some_order(random);
     let mut calls = Vec::new();
@@ -463,7 +464,7 @@ fn header_numbers(name: &str, held: &Held) -> Vec<u32> {
     }
 }
 
-fn entry_edges(random: &mut Random, turn: usize) -> Vec<Made> {
+fn entry_edges(random: &mut Random, turn: usize) -> Vec<Trial> {
     let held = small_pool(random, turn);
     let order = some_order(random);
     let at = random.place(held.frames.len());
@@ -615,7 +616,7 @@ pub fn spoil(random: &mut Random, image: &mut Vec<u8>, order: Order, refusal: u3
 }
 
 /// Each pair of faults several times; the lower number is given.
-fn two_faults(random: &mut Random, turn: usize) -> Vec<Made> {
+fn two_faults(random: &mut Random, turn: usize) -> Vec<Trial> {
     let mut calls = Vec::new();
     for (lower, higher) in pairs() {
         for number in 0..4 {
@@ -635,7 +636,7 @@ fn two_faults(random: &mut Random, turn: usize) -> Vec<Made> {
 // -------------------------------------------------------- lengths and numbers
 
 /// A small image cut at every length; others cut anywhere, or at an entry's end.
-fn torn(random: &mut Random, turn: usize) -> Vec<Made> {
+fn torn(random: &mut Random, turn: usize) -> Vec<Trial> {
     let settings = settings_by_turn(random, turn);
     let frames = (turn % 3) as u32;
     let settings = Settings {
@@ -644,8 +645,8 @@ fn torn(random: &mut Random, turn: usize) -> Vec<Made> {
     };
     let order = [Order::HighFirst, Order::LowFirst][turn % 2];
     let small = made_up_of(random, settings, frames, 1_000).encode(order);
-    let mut calls: Vec<Made> = (0..=small.len())
-        .map(|length| made("torn", Call::new(What::Read, &small[..length])))
+    let mut calls: Vec<Trial> = (0..=small.len())
+        .map(|length| trial("torn", Call::new(What::Read, &small[..length])))
         .collect();
     for number in 0..12 {
         let settings = some_settings(random);
@@ -678,7 +679,7 @@ fn image_of(random: &mut Random, in_use: u32, order: Order) -> Vec<u8> {
 /// The most frames that an image of a call has room for.
 const MANY: u32 = ((LONGEST - HEADER) / ENTRY) as u32;
 
-fn too_many_frames(random: &mut Random, turn: usize) -> Vec<Made> {
+fn too_many_frames(random: &mut Random, turn: usize) -> Vec<Trial> {
     let many = [130, 255, 256, 257, MANY][turn % 5];
     let mut calls = Vec::new();
     for in_use in [MOST_FRAMES - 1, MOST_FRAMES, MOST_FRAMES + 1, many] {
@@ -704,7 +705,7 @@ fn too_many_frames(random: &mut Random, turn: usize) -> Vec<Made> {
                 true => sort,
                 false => "127 or 128 frames",
             };
-            calls.push(made(sort, Call::new(What::Read, &image)));
+            calls.push(trial(sort, Call::new(What::Read, &image)));
         }
     }
     calls.extend(overflowing(random, turn));
@@ -713,7 +714,7 @@ fn too_many_frames(random: &mut Random, turn: usize) -> Vec<Made> {
 
 /// Counts of which the length is beyond 4 bytes, though what is left in 4 bytes of it
 /// is the length stated, or the length there is, too.
-fn overflowing(random: &mut Random, turn: usize) -> Vec<Made> {
+fn overflowing(random: &mut Random, turn: usize) -> Vec<Trial> {
     let mut calls = Vec::new();
     for (number, count) in [u32::MAX, 1 << 30, 1 << 31, 3 << 30, (1 << 30) + 1, 1 << 26]
         .into_iter()
@@ -737,7 +738,7 @@ fn overflowing(random: &mut Random, turn: usize) -> Vec<Made> {
 }
 
 /// Files that are none of the sort asked for, and none at all.
-fn other_files(random: &mut Random, turn: usize) -> Vec<Made> {
+fn other_files(random: &mut Random, turn: usize) -> Vec<Trial> {
     let held = small_pool(random, turn);
     let image = held.encode(some_order(random));
     let trace = trace_for(random, &held, 20);
@@ -754,15 +755,15 @@ fn other_files(random: &mut Random, turn: usize) -> Vec<Made> {
             trace: trace.to_vec(),
             ..Call::new(what, &image)
         };
-        calls.push(made("an image as a trace", on(&image)));
-        calls.push(made("an empty trace file", on(&[])));
+        calls.push(trial("an image as a trace", on(&image)));
+        calls.push(trial("an empty trace file", on(&[])));
     }
     for what in What::ALL {
         let call = Call {
             trace: trace.clone(),
             ..Call::new(what, &[])
         };
-        calls.push(made("an empty image", call));
+        calls.push(trial("an empty image", call));
     }
     let noise: Vec<u8> = (0..random.between(0, 400))
         .map(|_| random.any() as u8)
@@ -773,7 +774,7 @@ fn other_files(random: &mut Random, turn: usize) -> Vec<Made> {
 }
 
 /// Every page of a pool referred to once, and some that are not there.
-fn each_page_found(random: &mut Random, turn: usize) -> Vec<Made> {
+fn each_page_found(random: &mut Random, turn: usize) -> Vec<Trial> {
     let mut calls = Vec::new();
     for (number, in_use) in [MOST_FRAMES, random.between(0, MOST_FRAMES - 1)]
         .into_iter()
@@ -796,13 +797,13 @@ fn each_page_found(random: &mut Random, turn: usize) -> Vec<Made> {
             room: 2 * MOST_FRAMES + 8,
             ..Call::new(What::Replay, &held.encode(some_order(random)))
         };
-        calls.push(made("each page referred to", call));
+        calls.push(trial("each page referred to", call));
     }
     calls
 }
 
 /// Pools of which one to three numbers are near the truth.
-fn near_the_truth(random: &mut Random, turn: usize) -> Vec<Made> {
+fn near_the_truth(random: &mut Random, turn: usize) -> Vec<Trial> {
     let mut calls = Vec::new();
     for number in 0..60 {
         let order = some_order(random);
@@ -922,7 +923,7 @@ fn pool_of(settings: Settings, k: u32, frames: Vec<HeldFrame>) -> Held {
 }
 
 /// A miss on a full pool, whose victim and batch say how the frames compare.
-fn miss(random: &mut Random, sort: &str, held: &Held) -> Made {
+fn miss(random: &mut Random, sort: &str, held: &Held) -> Trial {
     let [_, _, batch, ..] = held.settings;
     let call = Call {
         page: absent_page(random, held),
@@ -930,10 +931,10 @@ fn miss(random: &mut Random, sort: &str, held: &Held) -> Made {
         room: batch,
         ..Call::new(What::Step, &held.encode(some_order(random)))
     };
-    made(sort, call)
+    trial(sort, call)
 }
 
-fn values_that_meet(random: &mut Random, turn: usize) -> Vec<Made> {
+fn values_that_meet(random: &mut Random, turn: usize) -> Vec<Trial> {
     // With k at an epoch's end every last step can be of the epoch that is now, so
     // that a log may have any age.
     let (now, epoch) = (4_000, 10);
@@ -956,13 +957,92 @@ fn values_that_meet(random: &mut Random, turn: usize) -> Vec<Made> {
             calls.push(miss(random, "values that meet", &held));
         }
     }
+    calls.extend(ties_that_floats_miss(random, turn));
     calls.extend(widest_products(random));
     calls.extend(many_that_meet(random, turn, now, k));
     calls
 }
 
+/// An access part and a write part, if any.
+type Parts = (Part, Option<Part>);
+
+/// Values under weight 2 as reduced fractions, each with all the parts that make it.
+fn parts_by_value() -> BTreeMap<(u64, u64), Vec<Parts>> {
+    let mut found: BTreeMap<(u64, u64), Vec<Parts>> = BTreeMap::new();
+    let writes = [1, 2, 3]
+        .into_iter()
+        .flat_map(|j| [3, 7, 9, 11].map(|age| Some((j, age))));
+    let writes: Vec<Option<Part>> = writes.chain([None]).collect();
+    for age in 1..=30 {
+        for (i, &write) in (1..=age.min(8)).flat_map(|i| writes.iter().map(move |write| (i, write)))
+        {
+            let (a, b) = fraction_of((i, age));
+            let (c, d) = write.map_or((0, 1), fraction_of);
+            let (above, below) = (a * d + 2 * c * b, b * d);
+            let common = common_divisor(above, below);
+            let parts = found.entry((above / common, below / common)).or_default();
+            parts.push(((i, age), write));
+        }
+    }
+    found
+}
+
+fn fraction_of((i, age): Part) -> (u64, u64) {
+    match i {
+        1 => (1, 10 * u64::from(age)),
+        _ => (u64::from(i), u64::from(age)),
+    }
+}
+
+fn common_divisor(a: u64, b: u64) -> u64 {
+    match b {
+        0 => a,
+        _ => common_divisor(b, a % b),
+    }
+}
+
+/// As floats would have it. They choose what is tried, and say nothing of what comes.
+fn as_float((access, write): Parts) -> f64 {
+    let float = |part: Part| {
+        let (above, below) = fraction_of(part);
+        above as f64 / below as f64
+    };
+    float(access) + 2.0 * write.map_or(0.0, float)
+}
+
+/// Two frames of equal value, of which floats take the one for the greater.
+fn ties_that_floats_miss(random: &mut Random, turn: usize) -> Vec<Trial> {
+    let (now, epoch, k) = (100, 10, 1_009);
+    let mut calls = Vec::new();
+    let pairs = parts_by_value().into_values().filter_map(|parts| {
+        let first = parts[0];
+        let other = parts
+            .iter()
+            .find(|other| as_float(**other) != as_float(first));
+        other.map(|other| [first, *other])
+    });
+    for mut both in pairs.skip(turn % 8).step_by(8) {
+        if random.chance(50) {
+            both.reverse();
+        }
+        let frames = [0, 1].map(|at: usize| {
+            let (access, write) = both[at];
+            let write = write.map_or(Vec::new(), |part| log_of(part, now));
+            frame_of(
+                1 + at as u32,
+                k - 1 - at as u32,
+                &log_of(access, now),
+                &write,
+            )
+        });
+        let held = pool_of(watt(2, 2, epoch, random.any()), k, frames.to_vec());
+        calls.push(miss(random, "ties that floats miss", &held));
+    }
+    calls
+}
+
 /// The pairs of values with the widest products, and one that floats cannot tell.
-fn widest_products(random: &mut Random) -> Vec<Made> {
+fn widest_products(random: &mut Random) -> Vec<Trial> {
     let k = MOST_REFERENCES - 1;
     let logs: [(&[u32], &[u32]); 10] = [
         (&[0], &[0]),
@@ -994,7 +1074,7 @@ fn widest_products(random: &mut Random) -> Vec<Made> {
 }
 
 /// Eight frames of which the values meet, in any order; the batch tells theirs.
-fn many_that_meet(random: &mut Random, turn: usize, now: u32, k: u32) -> Vec<Made> {
+fn many_that_meet(random: &mut Random, turn: usize, now: u32, k: u32) -> Vec<Trial> {
     let few = [
         (1, 1),
         (2, 20),
@@ -1023,7 +1103,7 @@ fn many_that_meet(random: &mut Random, turn: usize, now: u32, k: u32) -> Vec<Mad
 }
 
 /// Each set of pinned frames of three, from every hand; all of 128, all but one.
-fn pinned_frames(random: &mut Random, turn: usize) -> Vec<Made> {
+fn pinned_frames(random: &mut Random, turn: usize) -> Vec<Trial> {
     let mut calls = Vec::new();
     let three = Settings {
         frames: 3,
@@ -1063,7 +1143,7 @@ fn pinned_frames(random: &mut Random, turn: usize) -> Vec<Made> {
 }
 
 /// One frame, pinned at the edges of the pin count, by every kind.
-fn one_frame(random: &mut Random, turn: usize) -> Vec<Made> {
+fn one_frame(random: &mut Random, turn: usize) -> Vec<Trial> {
     let settings = Settings {
         frames: 1,
         ..settings_by_turn(random, turn)
@@ -1083,7 +1163,7 @@ fn one_frame(random: &mut Random, turn: usize) -> Vec<Made> {
                     room: settings.batch,
                     ..Call::new(What::Step, &image)
                 };
-                calls.push(made("one frame", call));
+                calls.push(trial("one frame", call));
             }
         }
     }
@@ -1091,7 +1171,7 @@ fn one_frame(random: &mut Random, turn: usize) -> Vec<Made> {
 }
 
 /// Full pools with many dirty frames, missed on one time after the other.
-fn great_batches(random: &mut Random, turn: usize) -> Vec<Made> {
+fn great_batches(random: &mut Random, turn: usize) -> Vec<Trial> {
     let mut calls = Vec::new();
     for (number, frames) in [1, 2, 6, 20, MOST_FRAMES].into_iter().enumerate() {
         for batch in [1, 2, 3, 16] {
@@ -1110,7 +1190,7 @@ fn great_batches(random: &mut Random, turn: usize) -> Vec<Made> {
                 room: MOST_FRAMES + 10,
                 ..Call::new(What::Replay, &held.encode(some_order(random)))
             };
-            calls.push(made("great batches", call));
+            calls.push(trial("great batches", call));
         }
     }
     calls

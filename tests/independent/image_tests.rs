@@ -3,12 +3,13 @@
 
 use crate::batches::{batch, stored};
 use crate::calls::*;
-use crate::compare_calls::{renamed_alike, Seen};
+use crate::compare_calls::renamed_alike;
 use crate::edges::bytes_of;
 use crate::image::{self, *};
 use crate::pools::{left_at, left_by_a_replay, made_up};
 use crate::renaming::{rename_answer, some_renamed_call, Changed, Renaming};
 use crate::replay::{check, go_on, Order, Rule};
+use crate::seen_calls::Seen;
 use crate::tests::{run, settings, BOTH, P, R, U, W};
 use crate::traces::{encode, put, some_settings, Random};
 use std::collections::{BTreeMap, BTreeSet};
@@ -581,12 +582,15 @@ fn replays_go_on_from_a_saved_pool() {
 fn batches_are_many_and_the_same_again() {
     let bytes = |seed| -> Vec<u8> {
         let batch = batch(seed);
-        batch.iter().flat_map(|made| made.call.to_bytes()).collect()
+        batch
+            .iter()
+            .flat_map(|trial| trial.call.to_bytes())
+            .collect()
     };
     let all: BTreeSet<Vec<u8>> = (0..32).map(bytes).collect();
     assert_eq!((all.len(), bytes(5)), (32, bytes(5)));
     for seed in 0..16 {
-        let calls: Vec<Call> = batch(seed).into_iter().map(|made| made.call).collect();
+        let calls: Vec<Call> = batch(seed).into_iter().map(|trial| trial.call).collect();
         assert_eq!(calls_of(&bytes(seed)), calls);
     }
 }
@@ -684,11 +688,11 @@ fn renaming_changes_no_call_otherwise() {
     // Other seeds than those that are compared with the program.
     for seed in 5_000..5_016 {
         let random = &mut Random::new(seed);
-        for made in batch(seed) {
-            let ours = answer(&made.call);
-            let renamed = renamed_alike(random, &made.call, &ours, &mut changed);
+        for trial in batch(seed) {
+            let ours = answer(&trial.call);
+            let renamed = renamed_alike(random, &trial.call, &ours, &mut changed);
             let renamed = renamed.unwrap_or_else(|fault| panic!("seed {seed}: {fault}"));
-            assert_eq!(renamed.is_some(), held(&made.call.image).is_ok());
+            assert_eq!(renamed.is_some(), held(&trial.call.image).is_ok());
         }
     }
     assert!(changed.named().iter().all(|(_, times)| *times > 0));
@@ -718,8 +722,8 @@ fn what_never_came_up_is_found() {
     assert!(before.contains(&"read 6".to_string()));
     assert!(before.contains(&"HandBelowF broken alone".to_string()));
     assert!(before.contains(&"500 sound images replayed from".to_string()));
-    for made in batch(2) {
-        seen.note_call(&made, &answer(&made.call));
+    for trial in batch(2) {
+        seen.note_call(&trial, &answer(&trial.call));
     }
     let after = seen.missing();
     assert!(!after.contains(&"read 6".to_string()) && after.len() < before.len());

@@ -1,7 +1,7 @@
 //! A second program for the replay, written from the paper alone, to be held
 //! against another one. It lists traces and series, makes them from seeds,
 //! and compares its listings and sheets with those of given programs, then once
-//! more with the pages renamed. It also runs the program `hitchyawl` as its users
+//! more with the pages renamed. It does the same with calls on pool images. It also runs the program `hitchyawl` as its users
 //! do, and holds all that comes of it against what must come.
 
 mod batches;
@@ -22,6 +22,7 @@ mod program_tests;
 mod rare;
 mod renaming;
 mod replay;
+mod seen_calls;
 mod session;
 #[cfg(test)]
 mod tests;
@@ -33,7 +34,7 @@ use std::collections::BTreeMap;
 use std::error::Error;
 use std::fmt;
 use std::io::{self, Read, Write};
-use std::process::{Command, ExitCode, Stdio};
+use std::process::{Command, ExitCode, Output, Stdio};
 use traces::{Load, Random};
 
 const USAGE: &str = "\
@@ -388,8 +389,8 @@ impl Made {
     }
 }
 
-/// All that a program prints when it is given these words and bytes.
-fn output_of(program: &str, words: &[&str], input: &[u8]) -> Result<Vec<u8>, Box<dyn Error>> {
+/// What comes of a program that is given these words and bytes.
+fn run_on(program: &str, words: &[&str], input: &[u8]) -> Result<Output, Box<dyn Error>> {
     let mut child = Command::new(program)
         .args(words)
         .stdin(Stdio::piped())
@@ -404,6 +405,12 @@ fn output_of(program: &str, words: &[&str], input: &[u8]) -> Result<Vec<u8>, Box
         });
         child.wait_with_output()
     })?;
+    Ok(output)
+}
+
+/// All that a program prints when it is given these words and bytes.
+fn output_of(program: &str, words: &[&str], input: &[u8]) -> Result<Vec<u8>, Box<dyn Error>> {
+    let output = run_on(program, words, input)?;
     if !output.status.success() {
         return Err(format!("{program}: {}", output.status).into());
     }

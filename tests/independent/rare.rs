@@ -9,6 +9,21 @@ fn every_drawn_pinned(pool: &Pool) -> bool {
     (0..pool.settings.sample).all(|_| pool.frames[drawing.draw()].pins > 0)
 }
 
+pub const RARE: [&str; 12] = [
+    "every drawn frame pinned",
+    "both logs full",
+    "a clock count of 7",
+    "a pin count of 255",
+    "a batch of 16",
+    "equal values in a batch",
+    "a sweep past every frame",
+    "an access out of a full log",
+    "a write out of a full log",
+    "a write with nothing new to log",
+    "a first write in epoch 0",
+    "a count kept at the cap",
+];
+
 /// What is rare in one step, each with whether it occurred.
 pub fn rare(before: &Pool, after: &Pool, kind: Kind, step: &Step) -> [(&'static str, bool); 12] {
     let settings = before.settings;
@@ -30,42 +45,19 @@ pub fn rare(before: &Pool, after: &Pool, kind: Kind, step: &Step) -> [(&'static 
     let others = batch.get(1..).unwrap_or_default();
     let mut counts = before.frames.iter().zip(&after.frames);
     let same_logs = old.access == new.access && old.write == new.write;
-    [
-        (
-            "every drawn frame pinned",
-            watt && evicted && every_drawn_pinned(before),
-        ),
-        ("both logs full", new.access.len == 8 && new.write.len == 4),
-        ("a clock count of 7", new.count == 7),
-        ("a pin count of 255", new.pins == 255),
-        ("a batch of 16", batch.len() == 16),
-        (
-            "equal values in a batch",
-            watt && others.windows(2).any(|two| value(two[0]) == value(two[1])),
-        ),
-        (
-            "a sweep past every frame",
-            counts.any(|(old, new)| old.page == new.page && old.count > new.count + 1),
-        ),
-        (
-            "an access out of a full log",
-            hit && old.access.len == 8 && old.access != new.access,
-        ),
-        (
-            "a write out of a full log",
-            hit && old.write.len == 4 && old.write != new.write,
-        ),
-        (
-            "a write with nothing new to log",
-            hit && kind == Kind::Write && same_logs,
-        ),
-        (
-            "a first write in epoch 0",
-            hit && kind == Kind::Write && old.write.len == 0 && now == 0,
-        ),
-        (
-            "a count kept at the cap",
-            hit && old.count == settings.cap && new.count == settings.cap,
-        ),
-    ]
+    let occurred = [
+        watt && evicted && every_drawn_pinned(before),
+        new.access.len == 8 && new.write.len == 4,
+        new.count == 7,
+        new.pins == 255,
+        batch.len() == 16,
+        watt && others.windows(2).any(|two| value(two[0]) == value(two[1])),
+        counts.any(|(old, new)| old.page == new.page && old.count > new.count + 1),
+        hit && old.access.len == 8 && old.access != new.access,
+        hit && old.write.len == 4 && old.write != new.write,
+        hit && kind == Kind::Write && same_logs,
+        hit && kind == Kind::Write && old.write.len == 0 && now == 0,
+        hit && old.count == settings.cap && new.count == settings.cap,
+    ];
+    std::array::from_fn(|i| (RARE[i], occurred[i]))
 }
