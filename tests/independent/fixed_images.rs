@@ -215,10 +215,6 @@ pub fn fixed() -> Vec<Case> {
 
 fn told() -> Vec<Case> {
     let low = MONDAY_TOLD.replace("high", "low");
-    let empty = Held {
-        frames: Vec::new(),
-        ..Held::one_frame()
-    };
     vec![
         of("image pool").gives(MONDAY_TOLD),
         of("image poollow").gives(&low),
@@ -230,7 +226,7 @@ fn told() -> Vec<Case> {
             .file("things", full_of_things(Order::LowFirst))
             .gives(FULL_TOLD),
         of("image empty")
-            .file("empty", empty.encode(Order::HighFirst))
+            .file("empty", Held::one_frame().encode(Order::HighFirst))
             .gives(
                 "order high\npolicy lru\nframes 1\nbatch 1\ncap 1\nsample 1\nweight 0\nepoch 1\n\
                  seed 0\npool 0 0 0\nframes 0\n",

@@ -1,7 +1,7 @@
 //! The image and the calls on it, by numbers worked by hand: an image field by field,
 //! each refusal, each clause of soundness on both sides, and what each call answers.
 
-use crate::batches::{batch, stored};
+use crate::batches::batch;
 use crate::calls::*;
 use crate::compare_calls::renamed_alike;
 use crate::edges::bytes_of;
@@ -10,6 +10,7 @@ use crate::pools::{left_at, left_by_a_replay, made_up};
 use crate::renaming::{rename_answer, some_renamed_call, Changed, Renaming};
 use crate::replay::{check, go_on, Order, Rule};
 use crate::seen_calls::Seen;
+use crate::stored_calls::stored;
 use crate::tests::{run, settings, BOTH, P, R, U, W};
 use crate::traces::{encode, put, some_settings, Random};
 use std::collections::{BTreeMap, BTreeSet};
@@ -246,7 +247,7 @@ fn held_but_not_sound() {
 
 type Change = fn(&mut Held);
 
-/// Two frames of epochs 3 and 2, the first one with full logs but for a place.
+/// Two frames, their last steps of the epochs 3 and 2.
 fn two_frames() -> Held {
     let mut first = HeldFrame {
         page: 5,
@@ -291,7 +292,7 @@ fn clauses_kept_at_their_edge() {
         |held| held.frames[1].page = 0,
         |held| held.frames[1].last = 34,
         |held| held.frames[1].last = 20,
-        |held| held.frames[0].accesses = 4 - 1,
+        |held| held.frames[0].access[2] = 1,
         |held| held.frames.clear(),
     ];
     for (number, change) in kept.into_iter().enumerate() {
@@ -415,9 +416,15 @@ fn answers_to_reading_and_writing() {
     };
     assert_eq!(answered(&writing(2)), "write 13\nbytes 7 7\n");
     assert_eq!(answered(&writing(0)), "write 13\nbytes\n");
-    let text = answered(&writing(202));
-    assert!(text.starts_with("write 0\nbytes 1 2 3 4 0 1 0 0 0 0 0 2 0 0 0 64 0 0 0 68 "));
-    assert!(text.ends_with(" 0 0 0 3 0 0 0 0 0 0 0 0 0 0 0 0 0 0 0 0 0 0 0 0 0 0 0 0 0 0 0 0 0 0 0 0 0 0 0 0 0 0 0 0 0 0 0 0 7 7\n"));
+    let done = answer(&writing(202));
+    let mut bytes: Vec<u32> = example_pool()
+        .encode(Order::HighFirst)
+        .into_iter()
+        .map(u32::from)
+        .collect();
+    assert_eq!(bytes[..12], [1, 2, 3, 4, 0, 1, 0, 0, 0, 0, 0, 2]);
+    bytes.extend([7, 7]);
+    assert_eq!((done.refusal, done.bytes), (0, Some(bytes)));
     let unsound = {
         let mut held = example_pool();
         held.hand = 2;

@@ -22,8 +22,10 @@ mod program_tests;
 mod rare;
 mod renaming;
 mod replay;
+mod rule_batches;
 mod seen_calls;
 mod session;
+mod stored_calls;
 #[cfg(test)]
 mod tests;
 mod traces;
@@ -108,7 +110,7 @@ fn run(arguments: &[&str]) -> Result<(), Box<dyn Error>> {
             }
         }
         ["storedcalls"] => {
-            for call in batches::stored() {
+            for call in stored_calls::stored() {
                 stdout.write_all(&call.to_bytes())?;
             }
         }
