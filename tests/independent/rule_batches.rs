@@ -132,6 +132,7 @@ pub fn values_that_meet(random: &mut Random, turn: usize) -> Vec<Trial> {
         }
     }
     calls.extend(ties_that_floats_miss(random, turn));
+    calls.extend(hidden_from_floats(random));
     calls.extend(widest_products(random));
     calls.extend(many_that_meet(random, turn, now, k));
     calls
@@ -215,10 +216,43 @@ fn ties_that_floats_miss(random: &mut Random, turn: usize) -> Vec<Trial> {
     calls
 }
 
-/// The pairs of values with the widest products, and one that floats cannot tell.
+/// Two frames of unequal values under weight 16, each by the age of an access and a write
+/// part: floats cannot tell them apart, in the first pair as sums of quotients, in the
+/// others even as one quotient each.
+const HIDDEN: [[(u32, Part); 2]; 4] = [
+    [(39_866, (2, 46_263)), (40_347, (2, 46_261))],
+    [(47_449, (4, 48_328)), (46_840, (4, 48_329))],
+    [(44_194, (4, 46_058)), (23_691, (4, 46_123))],
+    [(33_883, (4, 45_069)), (20_936, (4, 45_127))],
+];
+
+fn hidden_from_floats(random: &mut Random) -> Vec<Trial> {
+    // With epochs of length 1 now is k, as great as it may be before a reference.
+    let now = MOST_REFERENCES - 1;
+    let mut calls = Vec::new();
+    for [one, two] in HIDDEN {
+        for both in [[one, two], [two, one]] {
+            let frames = [0, 1].map(|at: usize| {
+                let (age, write) = both[at];
+                let access = log_of((1, age), now);
+                frame_of(
+                    1 + at as u32,
+                    now - 1 - at as u32,
+                    &access,
+                    &log_of(write, now),
+                )
+            });
+            let held = pool_of(watt(2, 16, 1, random.any()), now, frames.to_vec());
+            calls.push(miss(random, "hidden from floats", &held));
+        }
+    }
+    calls
+}
+
+/// The pairs of values with the widest products.
 fn widest_products(random: &mut Random) -> Vec<Trial> {
     let k = MOST_REFERENCES - 1;
-    let logs: [(&[u32], &[u32]); 10] = [
+    let logs: [(&[u32], &[u32]); 8] = [
         (&[0], &[0]),
         (&[0], &[3, 2, 1, 0]),
         (&[1], &[3, 2, 1, 0]),
@@ -227,8 +261,6 @@ fn widest_products(random: &mut Random) -> Vec<Trial> {
         (&[0], &[49_000]),
         (&[49_990], &[49_991, 49_990]),
         (&[49_997], &[49_997, 49_996, 49_995, 49_994]),
-        (&[49_999 - 39_866], &[49_999 - 46_262, 49_999 - 46_263]),
-        (&[49_999 - 40_347], &[49_999 - 46_260, 49_999 - 46_261]),
     ];
     let mut calls = Vec::new();
     for one in &logs {
@@ -239,9 +271,7 @@ fn widest_products(random: &mut Random) -> Vec<Trial> {
                 .map(|((access, write), page)| frame_of(page, k - page, access, write))
                 .collect();
             let held = pool_of(watt(2, 16, 1, random.any()), k, frames);
-            if held.is_sound() {
-                calls.push(miss(random, "widest products", &held));
-            }
+            calls.push(miss(random, "widest products", &held));
         }
     }
     calls

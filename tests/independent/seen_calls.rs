@@ -41,7 +41,7 @@ const REFUSALS: [(&str, &[u32]); 7] = [
     ("counts", &[0, 1, 2, 3, 4, 5, 6, 7, 8, 14, 15]),
 ];
 
-const SORTS: [&str; 24] = [
+const SORTS: [&str; 25] = [
     "left by a replay",
     "left at the end",
     "made up",
@@ -64,6 +64,7 @@ const SORTS: [&str; 24] = [
     "values that meet",
     "widest products",
     "ties that floats miss",
+    "hidden from floats",
     "many values that meet",
     "great batches",
 ];
