@@ -1,11 +1,15 @@
 //! The cases of a session: what a case is, those made from seeds, and scenarios of
 //! several runs. The fixed ones stand in a list of their own.
 
+use crate::batches;
 use crate::fixed::{example, EXPORTED, OLD};
+use crate::image::Held;
+use crate::pools::{left_by_a_replay, made_up};
 use crate::program::{order_of, quoted_frames, rule_name, Bytes, Command};
 use crate::program::{NUMBERS, RULES};
-use crate::replay::{check, Kind, Order, Settings, Trace};
+use crate::replay::{check, go_on, Kind, Order, Pool, Settings, Tally, Trace};
 use crate::session::{shown_words, Ran, Session};
+use crate::sheet_of;
 use crate::traces::{self, Random};
 use std::time::{Duration, Instant};
 
@@ -57,10 +61,11 @@ pub struct Case {
     pub no_room: bool,
     /// When standard input ends, at the earliest.
     pub input_ends: Option<Instant>,
-    /// What must come, as stated by hand: the status, and what is printed, or
-    /// what the output holds.
+    /// What must come, as stated by hand: the status, what is printed, or what the
+    /// output holds where nothing is, and what is saved.
     pub status: Option<u8>,
     pub gives: Option<Bytes>,
+    pub saves: Option<Bytes>,
 }
 
 impl Case {
@@ -79,6 +84,7 @@ impl Case {
             input_ends: None,
             status: None,
             gives: None,
+            saves: None,
         }
         .file("good", example())
         .file("text", EXPORTED)
@@ -134,6 +140,11 @@ impl Case {
         self.status(0)
     }
 
+    pub fn saves(mut self, bytes: impl AsRef<[u8]>) -> Case {
+        self.saves = Some(bytes.as_ref().to_vec());
+        self.status(0)
+    }
+
     pub fn refused(mut self, line: &str) -> Case {
         self.gives = Some(format!("{line}\n").into_bytes());
         self.status(1)
@@ -149,6 +160,7 @@ pub fn generated(seed: u64) -> Case {
     let command = Command::ALL[seed as usize % Command::ALL.len()];
     let input = match command {
         Command::Import => some_text(random),
+        Command::Image => some_image(random, &traces::trace(seed)),
         _ => some_trace(random, seed),
     };
     let (name, stdin) = match random.between(0, 4) {
@@ -160,14 +172,58 @@ pub fn generated(seed: u64) -> Case {
     if command.writes() {
         files.push(some_out(random));
     }
-    let options = some_options(random, command);
+    let mut options = some_options(random, command);
+    let pool = command.replays().then(|| some_image(random, &input));
+    let image_from_stdin = pool.is_some() && !stdin && random.chance(20);
+    if pool.is_some() {
+        options.extend(some_image_options(random, image_from_stdin));
+    }
     let words = mixed(random, files, options);
     let mut case = Case::new([command.name().to_string()].into_iter().chain(words));
     case.about = format!("seed {seed}, ");
-    match stdin {
+    case = match stdin {
         true => case.input(input),
         false => case.file("input", input),
+    };
+    match pool {
+        Some(pool) if image_from_stdin => case.input(pool),
+        Some(pool) => case.file("pool", pool),
+        None => case,
     }
+}
+
+/// An image that may be damaged. Most often the trace can go on from it, if that is
+/// a good one.
+fn some_image(random: &mut Random, trace: &[u8]) -> Bytes {
+    let settings = match check(trace) {
+        Ok(trace) if random.chance(85) => trace.settings,
+        _ => traces::some_settings(random),
+    };
+    let held = match random.chance(50) {
+        true => left_by_a_replay(random, settings),
+        false => made_up(random, settings),
+    };
+    let order = traces::some_order(random);
+    let mut bytes = held.encode(order);
+    if random.chance(20) && !held.frames.is_empty() {
+        let refusal = random.one_of(&batches::REFUSALS);
+        batches::spoil(random, &mut bytes, order, refusal);
+    }
+    bytes
+}
+
+/// From an image, to one, both or neither.
+fn some_image_options(random: &mut Random, from_stdin: bool) -> Vec<[String; 2]> {
+    let mut options = Vec::new();
+    let mut put = |option: &str, value: &str| options.push([option, value].map(String::from));
+    if from_stdin || random.chance(70) {
+        put("--from", if from_stdin { "-" } else { "pool" });
+    }
+    if random.chance(70) {
+        let out = random.one_of(&["new", "new", "old", "pool", "none/new", "input", "-"]);
+        put("--save", out);
+    }
+    options
 }
 
 /// The trace of any seed, or of one of those that are damaged.
@@ -306,11 +362,12 @@ fn damage_line(random: &mut Random, line: &mut String) {
 
 type Scenario = fn(&mut Session) -> Result<(), String>;
 
-pub const SCENARIOS: [(&str, Scenario); 4] = [
+pub const SCENARIOS: [(&str, Scenario); 5] = [
     ("runs at once", at_once),
     ("there and back", there_and_back),
     ("quote beside bench", quote_beside_bench),
     ("import of export", import_of_export),
+    ("day after day", day_after_day),
 ];
 
 /// Runs that write one output. Their input ends for all of them at once, so that they
@@ -377,6 +434,58 @@ fn there_and_back(session: &mut Session) -> Result<(), String> {
         expect_same("a trace and what nothing was set in", &bytes, &same)?;
     }
     Ok(())
+}
+
+/// Three traces, each from the image that the one before saved over, print and save what
+/// one replay over all of them gives with a tally for each.
+fn day_after_day(session: &mut Session) -> Result<(), String> {
+    for (first, command) in good_traces()
+        .into_iter()
+        .zip(["bench", "rows"].into_iter().cycle())
+    {
+        let days = days_of(&first)?;
+        let mut image = None;
+        let mut state: Option<(Pool, Tally)> = None;
+        for (number, day) in days.iter().enumerate() {
+            if let Some((_, tally)) = &mut state {
+                *tally = Tally::default();
+            }
+            let replayed = go_on(&mut state, day).map_err(|n| format!("refused {n}"))?;
+            let listing = replayed.to_string();
+            let gives = match command {
+                "bench" => sheet_of(day, &listing),
+                _ => listing,
+            };
+            let saved = Held::of(replayed.pool).encode(order_of(day));
+            let case = match &image {
+                None => Case::new([command, "--save", "a", "day"]),
+                Some(bytes) => {
+                    Case::new([command, "--from", "a", "--save", "a", "day"]).file("a", bytes)
+                }
+            };
+            let case = case.file("day", day).gives(gives).saves(&saved);
+            session
+                .ran(&case)
+                .map_err(|fault| format!("{command}, day {number}: {fault}"))?;
+            image = Some(saved);
+        }
+    }
+    Ok(())
+}
+
+/// A trace and two more with its settings, the orders mixed.
+fn days_of(first: &[u8]) -> Result<[Bytes; 3], String> {
+    let Trace { settings, .. } = check(first).map_err(|n| format!("refused {n}"))?;
+    let random = &mut Random::new(first.len() as u64);
+    let mut source = traces::Source::new(random, settings.frames, 12);
+    let mut day = |order: Order| {
+        let mut records = Vec::new();
+        source.fill(random, &mut records, 300);
+        traces::encode(&settings, order, &records)
+    };
+    let others = [day(Order::HighFirst), day(Order::LowFirst)];
+    let [second, third] = others;
+    Ok([first.to_vec(), second, third])
 }
 
 /// The words that say all settings of a trace.

@@ -83,7 +83,7 @@ const FIELDS: &str = "\
 0002 0080 0010 0007 000F 000E 0000C350 12345678 00000000
 9ABCDEF0 0001 0000";
 
-fn bytes_of(field: &str) -> Vec<u8> {
+pub fn bytes_of(field: &str) -> Vec<u8> {
     let byte = |at: usize| u8::from_str_radix(&field[at..at + 2], 16);
     let places = (0..field.len()).step_by(2);
     places.map(|at| byte(at).unwrap()).collect()

@@ -1,6 +1,7 @@
 //! The fixed cases of a session, most of them with what must come stated by hand.
 
 use crate::cases::{Case, Node, Output};
+use crate::fixed_images;
 use crate::program::{Bytes, Command, LONGEST_TEXT, NUMBERS};
 use crate::replay::{Order, Rule, Settings, MOST_RECORDS};
 use crate::traces::{encode, put};
@@ -26,7 +27,7 @@ records 5
 writes 1
 ";
 
-const SHEET: &str = "\
+pub const SHEET: &str = "\
 policy lru
 frames 2
 records 5
@@ -95,7 +96,7 @@ frames lru-misses lru-written clock-misses clock-written watt-misses watt-writte
 128 3 0 3 0 3 0
 ";
 
-const PLAIN: Settings = Settings {
+pub const PLAIN: Settings = Settings {
     rule: Rule::Lru,
     frames: 2,
     batch: 1,
@@ -113,7 +114,7 @@ pub fn example() -> Bytes {
     encode(&PLAIN, Order::HighFirst, &RECORDS)
 }
 
-fn example_low() -> Bytes {
+pub fn example_low() -> Bytes {
     encode(&PLAIN, Order::LowFirst, &RECORDS)
 }
 
@@ -142,7 +143,7 @@ fn imported(order: Order) -> Bytes {
 }
 
 /// A trace for each of the refusals 1 to 8.
-fn refused_traces(order: Order) -> [Bytes; 8] {
+pub fn refused_traces(order: Order) -> [Bytes; 8] {
     let with = |at, width, number| example_with(order, at, width, number);
     let good = with(6, 2, 0);
     [
@@ -166,7 +167,7 @@ fn on(command: Command, input: &str, out: &str) -> Vec<String> {
 
 /// The commands that read a trace.
 fn of_traces() -> impl Iterator<Item = Command> + Clone {
-    let reads = |command: &Command| *command != Command::Import;
+    let reads = |command: &Command| !matches!(command, Command::Import | Command::Image);
     Command::ALL.into_iter().filter(reads)
 }
 
@@ -179,7 +180,7 @@ fn input_of(command: Command) -> &'static str {
 }
 
 /// So many records over 300 pages.
-fn many(count: u32) -> Vec<(u32, u32)> {
+pub fn many(count: u32) -> Vec<(u32, u32)> {
     (0..count).map(|page| (page % 300, page % 2)).collect()
 }
 
@@ -208,6 +209,7 @@ pub fn fixed() -> Vec<Case> {
         writing(),
         standard_streams(),
         names(),
+        fixed_images::fixed(),
     ]
     .concat()
 }
@@ -825,9 +827,10 @@ fn standard_streams() -> Vec<Case> {
 }
 
 /// A case with a named pipe from which one of the files comes.
-fn fed(words: &str, from: &str) -> Case {
+pub fn fed(words: &str, from: &str) -> Case {
     let first = match from {
         "good" => "cat good >fed & ",
+        "pool" => "cat pool >fed & ",
         _ => "cat text >fed & ",
     };
     let case = Case::of(words).node("fed", Node::Fed(from.into()));

@@ -1,19 +1,31 @@
 //! A second program for the replay, written from the paper alone, to be held
 //! against another one. It lists traces and series, makes them from seeds,
 //! and compares its listings and sheets with those of given programs, then once
-//! more with the pages renamed. It also runs the program `hitchyawl` as its users
+//! more with the pages renamed. It does the same with calls on pool images. It also runs the program `hitchyawl` as its users
 //! do, and holds all that comes of it against what must come.
 
+mod batches;
+mod calls;
 mod cases;
+mod compare_calls;
 #[cfg(test)]
 mod edges;
 mod fixed;
+mod fixed_images;
+mod image;
+#[cfg(test)]
+mod image_tests;
+mod pools;
 mod program;
 #[cfg(test)]
 mod program_tests;
+mod rare;
 mod renaming;
 mod replay;
+mod rule_batches;
+mod seen_calls;
 mod session;
+mod stored_calls;
 #[cfg(test)]
 mod tests;
 mod traces;
@@ -24,7 +36,7 @@ use std::collections::BTreeMap;
 use std::error::Error;
 use std::fmt;
 use std::io::{self, Read, Write};
-use std::process::{Command, ExitCode, Stdio};
+use std::process::{Command, ExitCode, Output, Stdio};
 use traces::{Load, Random};
 
 const USAGE: &str = "\
@@ -34,7 +46,11 @@ usage: listing < TRACE
        makeseries SEED > ITEMS
        stored > ITEMS
        skewed lru|clock|watt high|low > TRACE
+       calls < CALLS
+       makecalls SEED > CALLS
+       storedcalls > CALLS
        compare HITCHYAWL-PROGRAM BENCH-PROGRAM SERIES-PROGRAM FIRST COUNT SERIESCOUNT
+       comparecalls CALLS-PROGRAM FIRST COUNT
        session HITCHYAWL FOLDER FIRST COUNT";
 
 fn main() -> ExitCode {
@@ -81,11 +97,32 @@ fn run(arguments: &[&str]) -> Result<(), Box<dyn Error>> {
             };
             stdout.write_all(&traces::for_timing(&load, order))?;
         }
+        ["calls"] => {
+            let answers: Vec<_> = calls::calls_of(&all_of_stdin()?)
+                .iter()
+                .map(calls::answer)
+                .collect();
+            stdout.write_all(calls::printed(&answers).as_bytes())?;
+        }
+        ["makecalls", seed] => {
+            for made in batches::batch(seed.parse()?) {
+                stdout.write_all(&made.call.to_bytes())?;
+            }
+        }
+        ["storedcalls"] => {
+            for call in stored_calls::stored() {
+                stdout.write_all(&call.to_bytes())?;
+            }
+        }
         ["compare", hitchyawl, bench, series, first, count, series_count] => {
             let first: u64 = first.parse()?;
             let (count, series_count) = (count.parse::<u64>()?, series_count.parse::<u64>()?);
             drop(stdout);
             compare([hitchyawl, bench, series], first, count, series_count)?;
+        }
+        ["comparecalls", program, first, count] => {
+            drop(stdout);
+            compare_calls::compare(program, first.parse()?, count.parse()?)?;
         }
         ["session", hitchyawl, folder, first, count] => {
             drop(stdout);
@@ -143,21 +180,11 @@ fn list_series(bytes: &[u8], watch: &mut dyn FnMut(&Replay)) -> String {
     text
 }
 
-impl fmt::Display for Replayed<'_> {
+/// As the lines of a listing from `pool` on.
+impl fmt::Display for Pool {
     fn fmt(&self, to: &mut fmt::Formatter) -> fmt::Result {
-        writeln!(to, "rows {}", self.rows.len())?;
-        for [outcome, frame, left, batch] in &self.rows {
-            writeln!(to, "{outcome} {frame} {left} {batch}")?;
-        }
-        writeln!(to, "written {}", self.written.len())?;
-        for page in &self.written {
-            writeln!(to, "{page}")?;
-        }
-        let Pool {
-            k, hand, sampler, ..
-        } = self.pool;
-        writeln!(to, "pool {k} {hand} {sampler}")?;
-        let in_use = self.pool.frames.iter().filter(|frame| frame.in_use);
+        writeln!(to, "pool {} {} {}", self.k, self.hand, self.sampler)?;
+        let in_use = self.frames.iter().filter(|frame| frame.in_use);
         writeln!(to, "frames {}", in_use.clone().count())?;
         for frame in in_use {
             let dirty = u8::from(frame.dirty);
@@ -171,6 +198,21 @@ impl fmt::Display for Replayed<'_> {
             }
             writeln!(to)?;
         }
+        Ok(())
+    }
+}
+
+impl fmt::Display for Replayed<'_> {
+    fn fmt(&self, to: &mut fmt::Formatter) -> fmt::Result {
+        writeln!(to, "rows {}", self.rows.len())?;
+        for [outcome, frame, left, batch] in &self.rows {
+            writeln!(to, "{outcome} {frame} {left} {batch}")?;
+        }
+        writeln!(to, "written {}", self.written.len())?;
+        for page in &self.written {
+            writeln!(to, "{page}")?;
+        }
+        write!(to, "{}", self.pool)?;
         writeln!(to, "hits {}", self.tally.hits)?;
         writeln!(to, "misses {}", self.tally.misses)?;
         writeln!(to, "evictions {}", self.tally.evictions)?;
@@ -349,8 +391,8 @@ impl Made {
     }
 }
 
-/// All that a program prints when it is given these words and bytes.
-fn output_of(program: &str, words: &[&str], input: &[u8]) -> Result<Vec<u8>, Box<dyn Error>> {
+/// What comes of a program that is given these words and bytes.
+fn run_on(program: &str, words: &[&str], input: &[u8]) -> Result<Output, Box<dyn Error>> {
     let mut child = Command::new(program)
         .args(words)
         .stdin(Stdio::piped())
@@ -365,6 +407,12 @@ fn output_of(program: &str, words: &[&str], input: &[u8]) -> Result<Vec<u8>, Box
         });
         child.wait_with_output()
     })?;
+    Ok(output)
+}
+
+/// All that a program prints when it is given these words and bytes.
+fn output_of(program: &str, words: &[&str], input: &[u8]) -> Result<Vec<u8>, Box<dyn Error>> {
+    let output = run_on(program, words, input)?;
     if !output.status.success() {
         return Err(format!("{program}: {}", output.status).into());
     }

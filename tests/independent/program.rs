@@ -2,10 +2,11 @@
 //! given its words and what stands outside, its status, what it prints, and what
 //! its output holds afterwards.
 
-use crate::replay::{check, Kind, Order, Pool, Rule, Settings, Tally, Trace, MOST_RECORDS};
-use crate::replay::{HEADER, RECORD};
+use crate::image::{self, Held};
+use crate::replay::{check, go_on, Kind, Order, Pool, Rule, Settings, Tally, Trace};
+use crate::replay::{HEADER, MOST_RECORDS, RECORD};
+use crate::sheet_of;
 use crate::traces::encode;
-use crate::{list_trace, sheet_of};
 use std::collections::BTreeSet;
 use std::ops::RangeInclusive;
 
@@ -13,6 +14,7 @@ pub type Bytes = Vec<u8>;
 
 pub const LONGEST_TRACE: usize = HEADER + RECORD * MOST_RECORDS as usize;
 pub const LONGEST_TEXT: usize = 1_048_576;
+pub const LONGEST_IMAGE: usize = 1_048_576;
 
 /// As a file's name, standard input or output.
 pub const STANDARD: &[u8] = b"-";
@@ -30,13 +32,14 @@ pub enum Command {
     Bench,
     Rows,
     Quote,
+    Image,
 }
 
 use Command::*;
 
 impl Command {
-    pub const ALL: [Command; 9] = [
-        Check, Inspect, Convert, Set, Export, Import, Bench, Rows, Quote,
+    pub const ALL: [Command; 10] = [
+        Check, Inspect, Convert, Set, Export, Import, Bench, Rows, Quote, Image,
     ];
 
     pub fn name(self) -> &'static str {
@@ -50,6 +53,19 @@ impl Command {
             Bench => "bench",
             Rows => "rows",
             Quote => "quote",
+            Image => "image",
+        }
+    }
+
+    /// The usage, where that is fixed.
+    pub fn usage(self) -> Option<&'static str> {
+        match self {
+            Bench => {
+                Some("usage: hitchyawl bench [SETTINGS] [--from IMAGE] [--save IMAGE] [TRACE]")
+            }
+            Rows => Some("usage: hitchyawl rows [SETTINGS] [--from IMAGE] [--save IMAGE] [TRACE]"),
+            Image => Some("usage: hitchyawl image [IMAGE]"),
+            _ => None,
         }
     }
 
@@ -62,7 +78,14 @@ impl Command {
         match option {
             Taken::Order => self == Import,
             Taken::Rule | Taken::Number(_) => self.takes_settings(),
+            Taken::From | Taken::Save => self.replays(),
         }
+    }
+
+    /// Whether it replays from a pool that may come from an image, and leaves one that
+    /// may be saved.
+    pub fn replays(self) -> bool {
+        matches!(self, Bench | Rows)
     }
 
     pub fn takes_settings(self) -> bool {
@@ -96,8 +119,10 @@ pub enum End {
     Help(Option<Command>),
     /// The line.
     Refused(String),
-    /// The command, where that is known.
-    Wrong(Option<Command>),
+    /// The command, where that is known, and the reason, where that is fixed.
+    Wrong(Option<Command>, Option<&'static str>),
+    /// All was printed, and then the image could not be written under this name.
+    Unsaved { printed: Bytes, named: Bytes },
     /// What cannot be read or written, and why, where that is fixed.
     Fault {
         named: Bytes,
@@ -110,16 +135,16 @@ impl End {
         match self {
             End::Done { .. } | End::Help(_) => 0,
             End::Refused(_) => 1,
-            End::Wrong(_) => 2,
-            End::Fault { .. } => 3,
+            End::Wrong(..) => 2,
+            End::Fault { .. } | End::Unsaved { .. } => 3,
         }
     }
 
     fn prints(&self) -> bool {
         match self {
             End::Done { printed, .. } => !printed.is_empty(),
-            End::Help(_) | End::Refused(_) => true,
-            End::Wrong(_) | End::Fault { .. } => false,
+            End::Help(_) | End::Refused(_) | End::Unsaved { .. } => true,
+            End::Wrong(..) | End::Fault { .. } => false,
         }
     }
 }
@@ -132,6 +157,21 @@ fn fault(named: &[u8]) -> End {
     End::Fault {
         named: named.to_vec(),
         reason: None,
+    }
+}
+
+fn too_large(named: &[u8]) -> End {
+    End::Fault {
+        named: named.to_vec(),
+        reason: Some("File too large"),
+    }
+}
+
+/// An input as it is named on standard error.
+fn input_named(name: &[u8]) -> &[u8] {
+    match name {
+        STANDARD => b"standard input",
+        _ => name,
     }
 }
 
@@ -171,7 +211,14 @@ struct Given {
     rule: Option<Rule>,
     numbers: [Option<u64>; NUMBERS.len()],
     order: Option<Order>,
+    from: Option<Bytes>,
+    save: Option<Bytes>,
 }
+
+/// What is told where standard input is to be two files, and where standard output,
+/// which is printed on, is to be an image.
+pub const NAMED_TWICE: &str = "hitchyawl: -: standard input is named twice";
+pub const TAKEN: &str = "hitchyawl: -: standard output is taken";
 
 struct Asked {
     command: Command,
@@ -181,11 +228,11 @@ struct Asked {
 
 /// What the words ask for, or how the run ends at once.
 fn asked(words: &[Bytes]) -> Result<Asked, End> {
-    let (first, rest) = words.split_first().ok_or(End::Wrong(None))?;
+    let (first, rest) = words.split_first().ok_or(End::Wrong(None, None))?;
     if first == b"--help" {
         return Err(End::Help(None));
     }
-    let command = Command::named(first).ok_or(End::Wrong(None))?;
+    let command = Command::named(first).ok_or(End::Wrong(None, None))?;
     let (mut given, mut files) = (Given::default(), Vec::new());
     let (mut rest, mut wrong) = (rest.iter(), false);
     while let Some(word) = rest.next() {
@@ -206,18 +253,24 @@ fn asked(words: &[Bytes]) -> Result<Asked, End> {
         }
     }
     if wrong || !command.takes_files().contains(&files.len()) {
-        return Err(End::Wrong(Some(command)));
+        return Err(End::Wrong(Some(command), None));
     }
-    Ok(Asked {
+    let asked = Asked {
         command,
         given,
         files,
-    })
+    };
+    match asked.wrong_stream() {
+        Some(reason) => Err(End::Wrong(Some(command), Some(reason))),
+        None => Ok(asked),
+    }
 }
 
 enum Taken {
     Rule,
     Order,
+    From,
+    Save,
     Number(usize),
 }
 
@@ -225,6 +278,8 @@ fn option_named(word: &[u8]) -> Option<Taken> {
     match word {
         b"--order" => return Some(Taken::Order),
         b"--rule" => return Some(Taken::Rule),
+        b"--from" => return Some(Taken::From),
+        b"--save" => return Some(Taken::Save),
         _ => {}
     }
     let mut names = NUMBERS.iter().map(|(name, _)| name.as_bytes());
@@ -239,6 +294,8 @@ impl Given {
             Taken::Rule => self.rule = Some(rule_named(value)?),
             Taken::Order => self.order = Some(order_named(value)?),
             Taken::Number(at) => self.numbers[at] = Some(number(value)?),
+            Taken::From => self.from = Some(value.clone()),
+            Taken::Save => self.save = Some(value.clone()),
         }
         Some(())
     }
@@ -324,9 +381,24 @@ const DEFAULTS: Settings = Settings {
 };
 
 impl Asked {
+    /// The input's name; standard input where none is given.
+    fn input_name(&self) -> &[u8] {
+        self.files.first().map_or(STANDARD, Vec::as_slice)
+    }
+
+    fn wrong_stream(&self) -> Option<&'static str> {
+        let is_standard = |name: &Option<Bytes>| name.as_deref() == Some(STANDARD);
+        if is_standard(&self.given.from) && self.input_name() == STANDARD {
+            return Some(NAMED_TWICE);
+        }
+        is_standard(&self.given.save).then_some(TAKEN)
+    }
+
     fn answer(&self, outside: &dyn Outside) -> Result<End, End> {
         let bytes = match self.command {
             Import => self.imported(outside)?,
+            Image => self.imaged(outside)?,
+            Bench | Rows => return self.replayed(outside),
             _ => self.of_trace(outside)?,
         };
         let out = match self.command.writes() {
@@ -350,25 +422,21 @@ impl Asked {
 
     /// The input, or a byte more than the longest that is of use.
     fn input(&self, outside: &dyn Outside, longest: usize) -> Result<Bytes, End> {
-        let name = self.files.first().map_or(STANDARD, Vec::as_slice);
+        let name = self.input_name();
         let bytes = outside.read(name, longest + 1);
-        bytes.ok_or_else(|| fault(self.input_named()))
-    }
-
-    /// The input as it is named on standard error.
-    fn input_named(&self) -> &[u8] {
-        match self.files.first() {
-            Some(name) if name != STANDARD => name,
-            _ => b"standard input",
-        }
+        bytes.ok_or_else(|| fault(input_named(name)))
     }
 
     /// A trace is refused as it stands before the options are.
-    fn of_trace(&self, outside: &dyn Outside) -> Result<Bytes, End> {
+    fn trace(&self, outside: &dyn Outside) -> Result<(Order, Trace), End> {
         let bytes = self.input(outside, LONGEST_TRACE)?;
-        let Trace { settings, records } = check(&bytes).map_err(refused)?;
-        let order = order_of(&bytes);
-        let settings = self.given.over(settings).map_err(refused)?;
+        let mut trace = check(&bytes).map_err(refused)?;
+        trace.settings = self.given.over(trace.settings).map_err(refused)?;
+        Ok((order_of(&bytes), trace))
+    }
+
+    fn of_trace(&self, outside: &dyn Outside) -> Result<Bytes, End> {
+        let (order, Trace { settings, records }) = self.trace(outside)?;
         let written = |order| encoded(&settings, order, &records);
         let text = match self.command {
             Convert => return Ok(written(other_order(order))),
@@ -376,24 +444,53 @@ impl Asked {
             Check => "accepted\n".to_string(),
             Inspect => inspected(order, settings, &records),
             Export => records.iter().map(line_of).collect(),
-            Rows => list_trace(&written(order), &mut |_| {}),
-            Bench => {
-                let bytes = written(order);
-                sheet_of(&bytes, &list_trace(&bytes, &mut |_| {}))
-            }
             Quote => quoted(settings, &records),
-            Import => unreachable!("its input is no trace"),
+            Bench | Rows | Import | Image => unreachable!("answered otherwise"),
         };
+        Ok(text.into_bytes())
+    }
+
+    /// The image is read before the trace is, and refused before anything else is.
+    fn replayed(&self, outside: &dyn Outside) -> Result<End, End> {
+        let from = self.given.from.as_ref();
+        let start = from.map(|name| read_image(name, outside)).transpose()?;
+        let (order, Trace { settings, records }) = self.trace(outside)?;
+        let bytes = encoded(&settings, order, &records);
+        let mut state = start.map(|(_, pool)| (pool, Tally::default()));
+        let replayed = go_on(&mut state, &bytes).map_err(refused)?;
+        let image = Held::of(replayed.pool).encode(order);
+        let listing = replayed.to_string();
+        let printed = match self.command {
+            Bench => sheet_of(&bytes, &listing),
+            _ => listing,
+        };
+        Ok(self.saved(printed.into_bytes(), image, outside))
+    }
+
+    /// Saves the image, if asked to, once all is printed.
+    fn saved(&self, printed: Bytes, image: Bytes, outside: &dyn Outside) -> End {
+        match &self.given.save {
+            Some(name) if !outside.can_write(name) => End::Unsaved {
+                printed,
+                named: name.clone(),
+            },
+            name => End::Done {
+                printed,
+                out: name.clone().map(|name| (name, image)),
+            },
+        }
+    }
+
+    fn imaged(&self, outside: &dyn Outside) -> Result<Bytes, End> {
+        let (order, pool) = read_image(self.input_name(), outside)?;
+        let text = settings_told(order, pool.settings) + &pool.to_string();
         Ok(text.into_bytes())
     }
 
     fn imported(&self, outside: &dyn Outside) -> Result<Bytes, End> {
         let text = self.input(outside, LONGEST_TEXT)?;
         if text.len() > LONGEST_TEXT {
-            return Err(End::Fault {
-                named: self.input_named().to_vec(),
-                reason: Some("File too large"),
-            });
+            return Err(too_large(input_named(self.input_name())));
         }
         let records =
             records_of(&text).map_err(|number| End::Refused(format!("line {number} refused\n")))?;
@@ -406,7 +503,20 @@ impl Asked {
     }
 }
 
-/// Of an accepted trace.
+/// The order and the pool of the image under a name.
+fn read_image(name: &[u8], outside: &dyn Outside) -> Result<(Order, Pool), End> {
+    let bytes = outside.read(name, LONGEST_IMAGE + 1);
+    let bytes = bytes.ok_or_else(|| fault(input_named(name)))?;
+    if bytes.len() > LONGEST_IMAGE {
+        return Err(too_large(input_named(name)));
+    }
+    let image_refused = |refusal: u32| End::Refused(format!("image refused {refusal}\n"));
+    let held = image::read(&bytes).map_err(image_refused)?;
+    let pool = held.pool().expect("what was read is sound");
+    Ok((order_of(&bytes), pool))
+}
+
+/// Of an accepted trace or image.
 pub fn order_of(bytes: &[u8]) -> Order {
     match bytes[0] {
         1 => Order::HighFirst,
@@ -429,7 +539,8 @@ pub fn encoded(settings: &Settings, order: Order, records: &[(u32, Kind)]) -> By
     encode(settings, order, &records)
 }
 
-fn inspected(order: Order, mut settings: Settings, records: &[(u32, Kind)]) -> String {
+/// The lines of the order and of the eight settings.
+fn settings_told(order: Order, mut settings: Settings) -> String {
     let order = match order {
         Order::HighFirst => "high",
         Order::LowFirst => "low",
@@ -438,6 +549,11 @@ fn inspected(order: Order, mut settings: Settings, records: &[(u32, Kind)]) -> S
     for ((option, _), field) in NUMBERS.iter().zip(fields(&mut settings)) {
         text += &format!("{} {field}\n", option.trim_start_matches('-'));
     }
+    text
+}
+
+fn inspected(order: Order, settings: Settings, records: &[(u32, Kind)]) -> String {
+    let text = settings_told(order, settings);
     let writes = records.iter().filter(|(_, kind)| *kind == Kind::Write);
     text + &format!("records {}\nwrites {}\n", records.len(), writes.count())
 }

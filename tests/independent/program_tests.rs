@@ -3,9 +3,11 @@
 
 use crate::cases::{generated, Case, Output};
 use crate::fixed::{example, fixed, IMPORT_SETTINGS};
+use crate::fixed_images::monday;
+use crate::image::read;
 use crate::program::*;
 use crate::replay::{check, Kind, Order, Rule, Settings};
-use crate::session::{expect_end, expect_folder, Found, Ran, Seen};
+use crate::session::{expect_end, expect_folder, Found, Ran, Seen, REFUSALS};
 use crate::tests::{settings, R, W};
 use crate::traces::encode;
 use std::collections::{BTreeMap, BTreeSet};
@@ -403,6 +405,215 @@ fn text_and_trace_say_the_same() {
     assert_eq!(import(&printed).unwrap(), check(&trace).unwrap().records);
 }
 
+// ------------------------------------------------------------------ the images
+
+/// The end of a run beside the example as `a`, the image of what it leaves as `pool`,
+/// and `bad`, which is neither.
+fn end_with_pool(words: &str) -> End {
+    let (example, pool) = (example(), monday(Order::LowFirst));
+    end_of(words, &[("a", &example), ("pool", &pool), ("bad", b"")])
+}
+
+fn image_refused(number: u32) -> End {
+    End::Refused(format!("image refused {number}\n"))
+}
+
+fn trace_refused(number: u32) -> End {
+    End::Refused(format!("trace refused {number}\n"))
+}
+
+#[test]
+fn images_are_told() {
+    let told = "order low\npolicy lru\nframes 2\nbatch 1\ncap 1\nsample 1\nweight 0\nepoch 1\n\
+                seed 0\npool 5 0 0\nframes 2\n8 0 0 1 4 : 4 :\n9 0 0 1 3 : 3 :\n";
+    let done = End::Done {
+        printed: told.into(),
+        out: None,
+    };
+    assert_eq!(end_with_pool("image pool"), done);
+    let pool = monday(Order::LowFirst);
+    assert_eq!(end_of("image", &[("-", &pool)]), done);
+    assert_eq!(end_with_pool("image a"), image_refused(5));
+    assert_eq!(end_with_pool("image bad"), image_refused(1));
+    assert_eq!(end_with_pool("bench pool"), trace_refused(5));
+}
+
+#[test]
+fn pools_are_saved_in_the_order_of_the_trace() {
+    let sheet = printed("bench a");
+    let saved = |words: &str| match end_with_pool(words) {
+        End::Done {
+            printed,
+            out: Some((name, bytes)),
+        } => (printed, name, bytes),
+        end => panic!("{words}: {end:?}"),
+    };
+    let (printed, name, bytes) = saved("bench --save new a");
+    assert_eq!((printed, name), (sheet.into_bytes(), b"new".to_vec()));
+    assert_eq!(bytes, monday(Order::HighFirst));
+    let (printed, _, bytes) = saved("rows --from pool --save pool a");
+    let text = String::from_utf8(printed).unwrap();
+    assert!(text.starts_with("rows 5\n2 1 9 0\n0 0 0 0\n0 1 0 0\n3 0 8 1\n2 1 7 0\nwritten 1\n8\n"));
+    assert!(text.contains("\npool 10 0 0\nframes 2\n9 0 0 1 8 : 8 :\n8 0 0 1 9 : 9 :\nhits 2\n"));
+    let held = read(&bytes).unwrap();
+    assert_eq!((order_of(&bytes), held.k), (Order::HighFirst, 10));
+    // The last of several counts.
+    let (_, name, bytes) = saved("bench --from bad --save no --from pool a --save new");
+    assert_eq!((name, held), (b"new".to_vec(), read(&bytes).unwrap()));
+}
+
+#[test]
+fn images_are_refused_first() {
+    for words in [
+        "bench --from bad a",
+        "bench --from bad bad",
+        "bench --from bad missing",
+        "bench --from bad --frames 0 a",
+        "rows --from bad --save no a",
+    ] {
+        assert_eq!(end_with_pool(words), image_refused(1), "{words}");
+    }
+    assert_eq!(end_with_pool("bench --from pool bad"), trace_refused(1));
+    assert_eq!(
+        end_with_pool("bench --from pool --cap 8 a"),
+        trace_refused(8)
+    );
+    assert_eq!(
+        end_with_pool("rows --from pool --cap 7 a"),
+        trace_refused(15)
+    );
+    let fault = |named: &str| End::Fault {
+        named: named.into(),
+        reason: None,
+    };
+    assert_eq!(end_with_pool("bench --from x y"), fault("x"));
+    assert_eq!(end_with_pool("bench --from pool y"), fault("y"));
+    assert_eq!(end_with_pool("bench --from - a"), fault("standard input"));
+}
+
+#[test]
+fn longest_image() {
+    let mut bytes = vec![0; LONGEST_IMAGE];
+    assert_eq!(end_of("image b", &[("b", &bytes)]), image_refused(2));
+    bytes.push(0);
+    let fault = |named: &str| End::Fault {
+        named: named.into(),
+        reason: Some("File too large"),
+    };
+    assert_eq!(end_of("image b", &[("b", &bytes)]), fault("b"));
+    assert_eq!(end_of("image", &[("-", &bytes)]), fault("standard input"));
+    let words = "bench --frames 0 --from b missing";
+    assert_eq!(end_of(words, &[("b", &bytes)]), fault("b"));
+    assert_eq!(LONGEST_IMAGE, 1_048_576);
+}
+
+#[test]
+fn streams_that_are_taken() {
+    let wrong = |reason| End::Wrong(Some(Command::Bench), reason);
+    for words in [
+        "bench --from -",
+        "bench - --from -",
+        "bench --from pool --from -",
+    ] {
+        assert_eq!(end_with_pool(words), wrong(Some(NAMED_TWICE)), "{words}");
+    }
+    for words in [
+        "bench --save - a",
+        "bench --save -",
+        "bench --from x --save - y",
+    ] {
+        assert_eq!(end_with_pool(words), wrong(Some(TAKEN)), "{words}");
+    }
+    // Other faults of the words are told before.
+    for words in [
+        "bench --from - --save",
+        "bench --from - a a",
+        "bench --save - a --frames x",
+        "bench --save - --wrong",
+    ] {
+        assert_eq!(end_with_pool(words), wrong(None), "{words}");
+    }
+    assert_eq!(end_with_pool("bench --from - --from pool a").status(), 0);
+    for words in [
+        "check --from pool a",
+        "image --save new pool",
+        "quote --save b a",
+    ] {
+        assert_eq!(end_with_pool(words).status(), 2, "{words}");
+    }
+}
+
+/// Nothing can be printed, and everything else written.
+struct Mute(Files);
+
+impl Outside for Mute {
+    fn read(&self, name: &[u8], most: usize) -> Option<Bytes> {
+        self.0.read(name, most)
+    }
+
+    fn can_write(&self, name: &[u8]) -> bool {
+        name != STANDARD
+    }
+}
+
+#[test]
+fn printing_comes_before_saving() {
+    let sheet = printed("bench a").into_bytes();
+    let unsaved = End::Unsaved {
+        printed: sheet,
+        named: b"no".to_vec(),
+    };
+    assert_eq!(end_with_pool("bench --save no a"), unsaved);
+    assert_eq!(unsaved.status(), 3);
+    let words = ["bench", "--save", "new", "a"].map(Bytes::from);
+    let files = Files(BTreeMap::from([(b"a".to_vec(), example())]));
+    let fault = End::Fault {
+        named: b"standard output".to_vec(),
+        reason: None,
+    };
+    assert_eq!(run(&words, &Mute(files)), fault);
+}
+
+#[test]
+fn other_ends_of_images_are_found() {
+    let unsaved = End::Unsaved {
+        printed: b"sheet\n".to_vec(),
+        named: b"no/new".to_vec(),
+    };
+    let told = "hitchyawl: no/new: No such file or directory\n";
+    assert!(passes(&unsaved, 3, "sheet\n", told));
+    assert!(!passes(&unsaved, 3, "", told));
+    assert!(!passes(&unsaved, 0, "sheet\n", ""));
+    assert!(!passes(
+        &unsaved,
+        3,
+        "sheet\n",
+        "hitchyawl: new: Is a directory\n"
+    ));
+    let saved = End::Done {
+        printed: b"sheet\n".to_vec(),
+        out: Some((b"/dev/stdout".to_vec(), b"image".to_vec())),
+    };
+    assert!(passes(&saved, 0, "sheet\nimage", ""));
+    assert!(!passes(&saved, 0, "imagesheet\n", "") && !passes(&saved, 0, "sheet\n", ""));
+    let usage = "usage: hitchyawl rows [SETTINGS] [--from IMAGE] [--save IMAGE] [TRACE]\n";
+    let twice = End::Wrong(Some(Command::Rows), Some(NAMED_TWICE));
+    let taken = End::Wrong(Some(Command::Rows), Some(TAKEN));
+    let other = End::Wrong(Some(Command::Rows), None);
+    let told = |reason: &str| format!("{reason}\n{usage}");
+    assert!(passes(&twice, 2, "", &told(NAMED_TWICE)));
+    assert!(passes(&taken, 2, "", &told(TAKEN)));
+    assert!(passes(&other, 2, "", &told("hitchyawl: --from: no value")));
+    assert!(!passes(&twice, 2, "", &told(TAKEN)));
+    assert!(!passes(&other, 2, "", &told(TAKEN)));
+    assert!(!passes(
+        &twice,
+        2,
+        "",
+        &format!("{NAMED_TWICE}\nusage: hitchyawl rows [TRACE]\n")
+    ));
+}
+
 // ------------------------------------------------------------------ the session
 
 /// Whether a run that ended so passes where this must come.
@@ -465,7 +676,7 @@ fn other_words_on_standard_error_are_found() {
     };
     assert!(passes(&long, 3, "", "hitchyawl: a: File too large\n"));
     assert!(!passes(&long, 3, "", "hitchyawl: a: No such file\n"));
-    let wrong = End::Wrong(Some(Command::Set));
+    let wrong = End::Wrong(Some(Command::Set), None);
     assert!(passes(
         &wrong,
         2,
@@ -570,7 +781,7 @@ fn what_never_occurred_is_found() {
                 out: None,
             },
         );
-        seen.note(&words, &End::Wrong(None));
+        seen.note(&words, &End::Wrong(None, None));
         if command != Command::Rows {
             seen.note(
                 &words,
@@ -580,22 +791,23 @@ fn what_never_occurred_is_found() {
                 },
             );
         }
-        for refusal in 1..8 {
-            seen.note(&words, &End::Refused(format!("trace refused {refusal}\n")));
+        for line in REFUSALS {
+            if !["trace refused 8", "image refused 14", "line refused"].contains(&line) {
+                seen.note(&words, &End::Refused(format!("{line}\n")));
+            }
         }
     }
-    assert_eq!(
-        seen.missing(),
-        [
-            "rows with status 3",
-            "trace refused 8",
-            "line refused",
-            "help"
-        ]
-    );
+    let never = [
+        "rows with status 3",
+        "trace refused 8",
+        "image refused 14",
+        "line refused",
+        "help",
+    ];
+    assert_eq!(seen.missing(), never);
     seen.note(&[], &End::Refused("line 12 refused\n".to_string()));
     seen.note(&[], &End::Help(None));
-    assert_eq!(seen.missing(), ["rows with status 3", "trace refused 8"]);
+    assert_eq!(seen.missing(), never[..3]);
 }
 
 #[test]
@@ -603,7 +815,8 @@ fn cases_are_many_and_differ() {
     let cases = fixed();
     assert!(cases.len() > 500);
     let stated = cases.iter().filter(|case| case.status.is_some());
-    assert!(stated.count() + 2 >= cases.len());
+    // Whether a file without rights can be read depends on who runs this.
+    assert!(stated.count() + 4 >= cases.len());
     let made = |seed| format!("{:?}", generated(seed));
     assert_eq!((0..300).map(made).collect::<BTreeSet<_>>().len(), 300);
     // A seed gives the same case again.

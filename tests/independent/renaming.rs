@@ -1,10 +1,12 @@
-//! Pages renamed one-to-one, at random: those of traces, and those of what is
-//! printed of them. Only the sameness of pages counts in a replay, so what it
+//! Pages renamed one-to-one, at random: those of traces and images, and those of what
+//! is printed of them. Only the sameness of pages counts in a replay, so what it
 //! prints of a renamed trace is what it printed before, renamed. Unused frames are
 //! not printed, so that no listing can show a page of theirs renamed.
 
+use crate::calls::{Answer, Call};
+use crate::image::{self, length_of};
 use crate::replay::{check, Order, Trace};
-use crate::traces::{self, Random};
+use crate::traces::{self, put, Random};
 use std::collections::{BTreeMap, BTreeSet};
 use std::iter::Peekable;
 use std::str::Lines;
@@ -97,6 +99,130 @@ fn some_renamed_items(random: &mut Random, items: &[&[u8]]) -> Option<(Vec<Vec<u
     Some((renamed.collect(), renaming))
 }
 
+// ----------------------------------------------------------------- the calls
+
+/// The pages of an image's entries, where it says a pool.
+fn pages_of_image(bytes: &[u8]) -> Option<Vec<u32>> {
+    let held = image::held(bytes).ok()?;
+    Some(held.frames.iter().map(|frame| frame.page).collect())
+}
+
+/// The same bytes of an image over the new pages.
+fn rename_image(bytes: &[u8], order: Order, renaming: &Renaming) -> Vec<u8> {
+    let mut bytes = bytes.to_vec();
+    for (entry, page) in pages_of_image(&bytes).into_iter().flatten().enumerate() {
+        put(&mut bytes, order, length_of(entry), 4, renaming.of(page));
+    }
+    bytes
+}
+
+/// A call with the pages of its image, of its trace and of its step renamed as one, and
+/// the renaming; nothing where the image says no pool. A refused trace stays as it is.
+pub fn some_renamed_call(random: &mut Random, call: &Call) -> Option<(Call, Renaming)> {
+    let mut pages: BTreeSet<u32> = pages_of_image(&call.image)?.into_iter().collect();
+    let trace = check(&call.trace);
+    pages.insert(call.page);
+    pages.extend(
+        trace
+            .iter()
+            .flat_map(|trace| trace.records.iter())
+            .map(|record| record.0),
+    );
+    let renaming = some_renaming(random, &pages);
+    let order = image::order_of_mark(&call.image)?;
+    let renamed = Call {
+        image: rename_image(&call.image, order, &renaming),
+        trace: match &trace {
+            Ok(trace) => rename_trace(trace, traces::some_order(random), &renaming),
+            Err(_) => call.trace.clone(),
+        },
+        page: renaming.of(call.page),
+        ..call.clone()
+    };
+    Some((renamed, renaming))
+}
+
+/// What is answered to a call, with the pages renamed and all else kept.
+pub fn rename_answer(
+    call: &Call,
+    answer: &Answer,
+    renaming: &Renaming,
+    changed: &mut Changed,
+) -> Answer {
+    let mut counted = Counted { renaming, changed };
+    let mut renamed = answer.clone();
+    let stored = stored_rows(call, answer);
+    for (row, places) in stored.iter().zip(rows_of(&mut renamed)) {
+        if let [2 | 3, _, left, _] = *row {
+            places[2] = counted.renamed(left, |changed| &mut changed.left);
+        }
+    }
+    // The places behind the pages written keep what they held.
+    let written: u32 = stored.iter().map(|row| row[3]).sum();
+    for page in renamed.list.iter_mut().flatten().take(written as usize) {
+        *page = counted.renamed(*page, |changed| &mut changed.written);
+    }
+    for frame in renamed.pool.iter_mut().flat_map(|pool| &mut pool.frames) {
+        frame.page = counted.renamed(frame.page, |changed| &mut changed.resident);
+    }
+    if let Some(bytes) = renamed.bytes.as_mut().filter(|_| answer.refusal == 0) {
+        rename_bytes(bytes, call, &mut counted);
+    }
+    changed.listings += 1;
+    renamed
+}
+
+/// The rows that a call that was not refused stored or gave.
+fn stored_rows(call: &Call, answer: &Answer) -> Vec<[u32; 4]> {
+    let records = match check(&call.trace) {
+        Ok(trace) if answer.refusal == 0 => trace.records.len(),
+        _ => 0,
+    };
+    let rows = answer.rows.iter().flat_map(|rows| rows.chunks_exact(4));
+    let rows = rows
+        .take(records)
+        .map(|row| [row[0], row[1], row[2], row[3]]);
+    rows.chain(answer.row).collect()
+}
+
+/// The places of the rows of an answer.
+fn rows_of(answer: &mut Answer) -> impl Iterator<Item = &mut [u32]> {
+    let row = answer.row.iter_mut().map(|row| row.as_mut_slice());
+    let rows = answer.rows.iter_mut();
+    rows.flat_map(|rows| rows.chunks_exact_mut(4)).chain(row)
+}
+
+/// Renames the pages in the bytes of an image that was written.
+fn rename_bytes(bytes: &mut [u32], call: &Call, counted: &mut Counted) {
+    let pages = pages_of_image(&call.image).unwrap_or_default();
+    for (entry, page) in pages.into_iter().enumerate() {
+        let page = counted.renamed(page, |changed| &mut changed.resident);
+        let mut place = [0; 4];
+        put(&mut place, call.order, 0, 4, page);
+        let at = length_of(entry);
+        bytes[at..at + 4].copy_from_slice(&place.map(u32::from));
+    }
+}
+
+/// A renaming, and what it has changed.
+struct Counted<'a> {
+    renaming: &'a Renaming,
+    changed: &'a mut Changed,
+}
+
+impl Counted<'_> {
+    /// The new number of a page, counted where it is another one.
+    fn renamed(&mut self, page: u32, place: fn(&mut Changed) -> &mut u64) -> u32 {
+        let number = self.renaming.of(page);
+        if number != page {
+            *place(self.changed) += 1;
+            self.changed.were_zero += u64::from(page == 0);
+            self.changed.became_zero += u64::from(number == 0);
+        }
+        number
+    }
+}
+
 // -------------------------------------------------------------- the listings
 
 /// How many listings were renamed, and how many of their pages got another number:
@@ -135,13 +261,12 @@ pub fn rename_listing(
     changed: &mut Changed,
 ) -> Result<String, String> {
     let mut renamer = Renamer {
-        renaming,
+        counted: Counted { renaming, changed },
         lines: listing.lines().peekable(),
         text: String::new(),
-        changed,
     };
     if renamer.items().is_some() {
-        renamer.changed.listings += 1;
+        renamer.counted.changed.listings += 1;
         return Ok(renamer.text);
     }
     let done = renamer.text.lines().count();
@@ -155,10 +280,9 @@ pub fn rename_listing(
 /// Takes lines and puts them into the text, one for one. Each step is nothing where
 /// a line is not of the form due there.
 struct Renamer<'a> {
-    renaming: &'a Renaming,
+    counted: Counted<'a>,
     lines: Peekable<Lines<'a>>,
     text: String,
-    changed: &'a mut Changed,
 }
 
 impl Renamer<'_> {
@@ -209,7 +333,7 @@ impl Renamer<'_> {
         let line = self.lines.next()?;
         match numbers(line)? {
             [outcome @ (2 | 3), frame, left, batch] => {
-                let left = self.renamed(left, |changed| &mut changed.left);
+                let left = self.counted.renamed(left, |changed| &mut changed.left);
                 self.put(&format!("{outcome} {frame} {left} {batch}"));
             }
             [0 | 1 | 4 | 109..=112, _, 0, 0] => self.put(line),
@@ -220,7 +344,7 @@ impl Renamer<'_> {
 
     fn written_page(&mut self) -> Option<()> {
         let [page] = numbers(self.lines.next()?)?;
-        let page = self.renamed(page, |changed| &mut changed.written);
+        let page = self.counted.renamed(page, |changed| &mut changed.written);
         self.put(&page.to_string());
         Some(())
     }
@@ -236,20 +360,9 @@ impl Renamer<'_> {
         let [_dirty, _pins, _count, _last] = numbers(state)?;
         any_numbers(access)?;
         any_numbers(write)?;
-        let page = self.renamed(page, |changed| &mut changed.resident);
+        let page = self.counted.renamed(page, |changed| &mut changed.resident);
         self.put(&format!("{page} {rest}"));
         Some(())
-    }
-
-    /// The new number of a page, counted where it is another one.
-    fn renamed(&mut self, page: u32, place: fn(&mut Changed) -> &mut u64) -> u32 {
-        let number = self.renaming.of(page);
-        if number != page {
-            *place(self.changed) += 1;
-            self.changed.were_zero += u64::from(page == 0);
-            self.changed.became_zero += u64::from(number == 0);
-        }
-        number
     }
 
     /// Keeps a line of this name and, behind a space, so many numbers; gives the

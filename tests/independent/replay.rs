@@ -9,7 +9,7 @@ pub const HEADER: usize = 48;
 pub const RECORD: usize = 8;
 pub const MOST_RECORDS: u32 = 8_000;
 
-const MOST_REFERENCES: u32 = 50_000;
+pub const MOST_REFERENCES: u32 = 50_000;
 const MOST_SAMPLE: usize = 16;
 const SAMPLER_STEP: u32 = 2_654_435_769;
 

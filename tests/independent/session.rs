@@ -390,14 +390,14 @@ fn expect_stdout(end: &End, stdout: &[u8]) -> Result<(), String> {
     let expected = match end {
         End::Help(command) => return expect_help(*command, stdout),
         End::Done {
+            printed,
             out: Some((name, bytes)),
-            ..
-        } if name == b"/dev/stdout" => bytes,
-        End::Done { printed, .. } => printed,
-        End::Refused(line) => line.as_bytes(),
-        End::Wrong(_) | End::Fault { .. } => &[],
+        } if name == b"/dev/stdout" => [&printed[..], bytes].concat(),
+        End::Done { printed, .. } | End::Unsaved { printed, .. } => printed.clone(),
+        End::Refused(line) => line.clone().into_bytes(),
+        End::Wrong(..) | End::Fault { .. } => Bytes::new(),
     };
-    match first_difference(expected, stdout) {
+    match first_difference(&expected, stdout) {
         None => Ok(()),
         Some((line, ours, theirs)) => Err(format!(
             "standard output, line {line}: ours {ours}, theirs {theirs}"
@@ -448,36 +448,58 @@ const REASONS: [&str; 8] = [
 ];
 
 fn expect_stderr(end: &End, stderr: &[u8]) -> Result<(), String> {
-    let amiss = |what: &str| Err(format!("standard error {what}: {}", shown(stderr)));
     match end {
         End::Done { .. } | End::Help(_) | End::Refused(_) if stderr.is_empty() => Ok(()),
-        End::Done { .. } | End::Help(_) | End::Refused(_) => amiss("is not empty"),
-        End::Wrong(command) => {
-            let text = String::from_utf8_lossy(stderr);
-            let Some((reason, usage)) = text.split_once('\n') else {
-                return amiss("has no usage");
-            };
-            if !reason.starts_with("hitchyawl: ") {
-                return amiss("does not begin with a reason");
-            }
-            let commands = command.map_or(Command::ALL.to_vec(), |command| vec![command]);
-            names_all(usage, &commands).map_err(|fault| format!("usage: {fault}"))
+        End::Done { .. } | End::Help(_) | End::Refused(_) => amiss("is not empty", stderr),
+        End::Wrong(command, reason) => expect_usage(*command, *reason, stderr),
+        End::Fault { named, reason } => expect_fault(named, *reason, stderr),
+        End::Unsaved { named, .. } => expect_fault(named, None, stderr),
+    }
+}
+
+fn amiss(what: &str, stderr: &[u8]) -> Result<(), String> {
+    Err(format!("standard error {what}: {}", shown(stderr)))
+}
+
+/// A reason, then the usage. A reason that is fixed is told where no other one is.
+fn expect_usage(
+    command: Option<Command>,
+    reason: Option<&'static str>,
+    stderr: &[u8],
+) -> Result<(), String> {
+    let text = String::from_utf8_lossy(stderr);
+    let Some((told, usage)) = text.split_once('\n') else {
+        return amiss("has no usage", stderr);
+    };
+    if !told.starts_with(reason.unwrap_or("hitchyawl: ")) {
+        return amiss("does not begin with its reason", stderr);
+    }
+    let fixed = [program::NAMED_TWICE, program::TAKEN];
+    if reason.is_none() && fixed.iter().any(|reason| told.starts_with(reason)) {
+        return amiss("has a reason that another one comes before", stderr);
+    }
+    let fixed_usage = command.and_then(Command::usage);
+    if fixed_usage.is_some_and(|fixed| !usage.lines().any(|line| line == fixed)) {
+        return amiss("has another usage", stderr);
+    }
+    let commands = command.map_or(Command::ALL.to_vec(), |command| vec![command]);
+    names_all(usage, &commands).map_err(|fault| format!("usage: {fault}"))
+}
+
+/// A line that names the file and a reason.
+fn expect_fault(named: &[u8], reason: Option<&str>, stderr: &[u8]) -> Result<(), String> {
+    let front = [b"hitchyawl: ", named, b": "].concat();
+    let told = stderr.strip_prefix(front.as_slice());
+    let Some((b'\n', told)) = told.and_then(<[u8]>::split_last) else {
+        return amiss("does not name the file", stderr);
+    };
+    match reason {
+        _ if told.is_empty() || told.contains(&b'\n') => amiss("is not one line", stderr),
+        Some(reason) if told != reason.as_bytes() => amiss("has another reason", stderr),
+        _ if !REASONS.iter().any(|reason| told == reason.as_bytes()) => {
+            amiss("has no reason", stderr)
         }
-        End::Fault { named, reason } => {
-            let front = [b"hitchyawl: ", named.as_slice(), b": "].concat();
-            let told = stderr.strip_prefix(front.as_slice());
-            let Some((b'\n', told)) = told.and_then(<[u8]>::split_last) else {
-                return amiss("does not name the file");
-            };
-            match reason {
-                _ if told.is_empty() || told.contains(&b'\n') => amiss("is not one line"),
-                Some(reason) if told != reason.as_bytes() => amiss("has another reason"),
-                _ if !REASONS.iter().any(|reason| told == reason.as_bytes()) => {
-                    amiss("has no reason")
-                }
-                _ => Ok(()),
-            }
-        }
+        _ => Ok(()),
     }
 }
 
@@ -506,18 +528,21 @@ fn shown_found(found: Option<&Found>) -> String {
 
 /// What a case says by hand, against what comes of the rules.
 fn expect_by_hand(case: &Case, end: &End) -> Result<(), String> {
-    let holds = match end {
-        _ if case.status.is_some_and(|status| status != end.status()) => false,
-        End::Done { printed, out } => {
-            let out = out.as_ref().map_or(printed, |(_, bytes)| bytes);
-            case.gives.as_ref().is_none_or(|gives| gives == out)
-        }
-        End::Refused(line) => {
-            let line = line.as_bytes();
-            case.gives.as_ref().is_none_or(|gives| gives == line)
-        }
-        _ => case.gives.is_none(),
+    let (printed, out) = match end {
+        End::Done { printed, out } => (Some(printed.clone()), out.as_ref()),
+        End::Unsaved { printed, .. } => (Some(printed.clone()), None),
+        End::Refused(line) => (Some(line.clone().into_bytes()), None),
+        _ => (None, None),
     };
+    let out = out.map(|(_, bytes)| bytes.clone());
+    // Where nothing is printed, it is the output that is given.
+    let given = match printed {
+        Some(printed) if printed.is_empty() && out.is_some() => out.clone(),
+        printed => printed,
+    };
+    let holds = case.status.is_none_or(|status| status == end.status())
+        && (case.gives.is_none() || case.gives == given)
+        && (case.saves.is_none() || case.saves == out);
     match holds {
         true => Ok(()),
         false => Err(format!("the case says otherwise than the rules: {end:?}")),
@@ -537,7 +562,7 @@ pub struct Seen {
     helps: u64,
 }
 
-const REFUSALS: [&str; 9] = [
+pub const REFUSALS: [&str; 16] = [
     "trace refused 1",
     "trace refused 2",
     "trace refused 3",
@@ -546,6 +571,13 @@ const REFUSALS: [&str; 9] = [
     "trace refused 6",
     "trace refused 7",
     "trace refused 8",
+    "trace refused 15",
+    "image refused 1",
+    "image refused 2",
+    "image refused 3",
+    "image refused 5",
+    "image refused 6",
+    "image refused 14",
     "line refused",
 ];
 

@@ -2,6 +2,8 @@
 //! and the soundness of the pool after every step of some generated traces.
 
 use crate::fixed::LISTING;
+use crate::image::Held;
+use crate::rare::rare;
 use crate::renaming::*;
 use crate::replay::*;
 use crate::traces::{self, encode, put, Random};
@@ -644,81 +646,14 @@ fn renaming_changes_nothing_else() {
 
 // -------------------------------------------------------- the generated traces
 
+/// What an image cannot say of unused frames, and what it can say of the others.
 fn sound(pool: &Pool) -> bool {
-    let Pool { settings, k, .. } = *pool;
     let in_use = pool.frames.iter().take_while(|frame| frame.in_use).count();
-    let (used, unused) = pool.frames.split_at(in_use);
-    let distinct = |number: fn(&Frame) -> u32| {
-        let numbers = used.iter().map(number);
-        numbers.collect::<BTreeSet<_>>().len() == in_use
-    };
-    pool.frames.len() == settings.frames as usize
-        && unused.iter().all(|frame| *frame == Frame::default())
-        && distinct(|frame| frame.page)
-        && distinct(|frame| frame.last)
-        && pool.hand < pool.frames.len()
-        && k <= 50_000
-        && used.iter().all(|frame| {
-            let log_sound = |len: usize, epochs: &[u32]| {
-                let (log, rest) = epochs.split_at(len);
-                log.windows(2).all(|pair| pair[0] > pair[1])
-                    && log.iter().all(|&t| t <= frame.last / settings.epoch)
-                    && rest.iter().all(|&t| t == 0)
-            };
-            frame.count <= settings.cap
-                && frame.last < k
-                && log_sound(frame.access.len, &frame.access.epochs)
-                && log_sound(frame.write.len, &frame.write.epochs)
-                && frame.access.len > 0
-                && (frame.write.len > 0 || !frame.dirty)
-        })
-}
-
-/// Whether the next draws, as many as there are for one victim, name pinned frames
-/// alone.
-fn every_drawn_pinned(pool: &Pool) -> bool {
-    let mut drawing = pool.clone();
-    (0..pool.settings.sample).all(|_| pool.frames[drawing.draw()].pins > 0)
-}
-
-/// What is rare and must come up among the traces.
-fn rare(before: &Pool, after: &Pool, step: &Step) -> [(&'static str, bool); 7] {
-    let settings = before.settings;
-    let watt = settings.rule == Rule::Watt;
-    let (frame, batch) = match step {
-        Ok((at, Outcome::Dirty { written, .. })) => (after.frames[*at], &written[..]),
-        Ok((at, _)) => (after.frames[*at], &[][..]),
-        Err(_) => (Frame::default(), &[][..]),
-    };
-    let evicted = [2, 3].contains(&row(step)[0]);
-    let value = |page: u32| {
-        let mut frames = before.frames.iter();
-        let frame = frames.find(|frame| frame.page == page)?;
-        Some(frame.value(settings.weight, before.k / settings.epoch))
-    };
-    let others = batch.get(1..).unwrap_or_default();
-    let mut counts = before.frames.iter().zip(&after.frames);
-    [
-        (
-            "every drawn frame pinned",
-            watt && evicted && every_drawn_pinned(before),
-        ),
-        (
-            "both logs full",
-            frame.access.len == 8 && frame.write.len == 4,
-        ),
-        ("a clock count of 7", frame.count == 7),
-        ("a pin count of 255", frame.pins == 255),
-        ("a batch of 16", batch.len() == 16),
-        (
-            "equal values in a batch",
-            watt && others.windows(2).any(|two| value(two[0]) == value(two[1])),
-        ),
-        (
-            "a sweep past every frame",
-            counts.any(|(old, new)| old.page == new.page && old.count > new.count + 1),
-        ),
-    ]
+    pool.frames.len() == pool.settings.frames as usize
+        && pool.frames[in_use..]
+            .iter()
+            .all(|frame| *frame == Frame::default())
+        && Held::of(pool).is_sound()
 }
 
 #[test]
@@ -737,7 +672,7 @@ fn steps_leave_the_pool_sound() {
                 Ok((at, _)) => assert_eq!(pool.frames[at].page, page),
                 Err(_) => assert_eq!(before, pool),
             }
-            for (name, occurred) in rare(&before, &pool, &step) {
+            for (name, occurred) in rare(&before, &pool, kind, &step) {
                 *seen.entry(name).or_insert(false) |= occurred;
             }
         }

@@ -11,13 +11,13 @@
 
 use crate::replay::{Order, Rule, Settings, HEADER, MOST_RECORDS, RECORD};
 
-const READ: u32 = 0;
-const WRITE: u32 = 1;
-const PIN: u32 = 2;
-const UNPIN: u32 = 3;
+pub const READ: u32 = 0;
+pub const WRITE: u32 = 1;
+pub const PIN: u32 = 2;
+pub const UNPIN: u32 = 3;
 
 /// Page and kind.
-type Record = (u32, u32);
+pub type Record = (u32, u32);
 
 // -------------------------------------------------------------- the numbers
 
@@ -120,7 +120,7 @@ pub fn some_order(random: &mut Random) -> Order {
     random.one_of(&[Order::HighFirst, Order::LowFirst])
 }
 
-fn some_settings(random: &mut Random) -> Settings {
+pub fn some_settings(random: &mut Random) -> Settings {
     Settings {
         rule: random.one_of(&[Rule::Lru, Rule::Clock, Rule::Watt]),
         frames: match random.between(0, 9) {
@@ -147,7 +147,7 @@ fn some_settings(random: &mut Random) -> Settings {
 
 /// Records over one set of pages. It keeps what it has pinned, so that later
 /// traces of a series can still unpin it.
-struct Source {
+pub struct Source {
     pages: Vec<u32>,
     /// How strongly the front of the pages is preferred: 1 is evenly.
     skew: u32,
@@ -159,7 +159,7 @@ struct Source {
 }
 
 impl Source {
-    fn new(random: &mut Random, frames: u32, most_pins: u32) -> Source {
+    pub fn new(random: &mut Random, frames: u32, most_pins: u32) -> Source {
         let count = match random.between(0, 9) {
             0 => random.between(1, frames),
             1..=4 => frames + random.between(1, 4),
@@ -178,11 +178,16 @@ impl Source {
                 pages[place] = edge;
             }
         }
+        Source::over(random, pages, Vec::new(), most_pins)
+    }
+
+    /// Over these pages, of which some are pinned already.
+    pub fn over(random: &mut Random, pages: Vec<u32>, pinned: Vec<u32>, most_pins: u32) -> Source {
         Source {
             pages,
             skew: random.between(1, 4),
             scan: 0,
-            pinned: Vec::new(),
+            pinned,
             most_pins,
         }
     }
@@ -203,7 +208,7 @@ impl Source {
     /// Puts records behind those present until there are n of them, stretch
     /// after stretch: pages of any kind, a scan, or a burst of a few hot ones;
     /// some writes, and in a hundred records so many pins and unpins.
-    fn fill(&mut self, random: &mut Random, records: &mut Vec<Record>, n: usize) {
+    pub fn fill(&mut self, random: &mut Random, records: &mut Vec<Record>, n: usize) {
         while records.len() < n {
             let what = random.between(0, 9);
             let writes = random.one_of(&[0, 20, 50, 50, 80, 100]);
@@ -245,7 +250,7 @@ impl Source {
 }
 
 /// A page pinned past 255 times, with a few other records in between.
-fn pinned_full(random: &mut Random) -> Vec<Record> {
+pub fn pinned_full(random: &mut Random) -> Vec<Record> {
     let page = random.any();
     let mut records = Vec::new();
     for _ in 0..random.between(256, 275) {
@@ -267,7 +272,7 @@ fn pinned_full(random: &mut Random) -> Vec<Record> {
 
 /// All frames but one or two pinned and the rest gone through, so that WATT
 /// mostly draws pinned frames alone.
-fn nearly_all_pinned(random: &mut Random, frames: u32) -> Vec<Record> {
+pub fn nearly_all_pinned(random: &mut Random, frames: u32) -> Vec<Record> {
     let first = random.any();
     let mut pages: Vec<u32> = (0..frames).map(|i| first.wrapping_add(i)).collect();
     let mut records = Vec::new();
@@ -368,7 +373,7 @@ const WRONG_FIELDS: [(usize, usize, &[u32]); 14] = [
 ];
 
 /// As many ways as there are fields, and others.
-const WAYS: usize = WRONG_FIELDS.len() + 10;
+pub const WAYS: usize = WRONG_FIELDS.len() + 10;
 
 fn put_off_by_one(random: &mut Random, bytes: &mut [u8], order: Order, at: usize) {
     let number = order.number(&bytes[at..at + 4]);
@@ -390,7 +395,7 @@ fn flip_a_bit(random: &mut Random, bytes: &mut [u8]) {
 
 /// Damages a trace in one of the ways by turns, a field with each of its
 /// numbers by turns.
-fn damage(random: &mut Random, bytes: &mut Vec<u8>, order: Order, turn: usize) {
+pub fn damage(random: &mut Random, bytes: &mut Vec<u8>, order: Order, turn: usize) {
     if bytes.len() < HEADER {
         return;
     }
@@ -505,7 +510,7 @@ fn bad_trace(random: &mut Random, settings: &Settings) -> Vec<u8> {
 }
 
 /// A trace of which one setting is another, each by turns.
-fn other_trace(random: &mut Random, settings: &Settings, turn: u32) -> Vec<u8> {
+pub fn other_trace(random: &mut Random, settings: &Settings, turn: u32) -> Vec<u8> {
     let mut other = *settings;
     while other == *settings {
         let fresh = some_settings(random);
