@@ -90,7 +90,7 @@ fn settle_unpin(found: Found, pins: u8) -> Row
 }
 
 // What a record asks for: a reference or an unpin, or neither; with a write, with a pin.
-pub struct Asked {
+struct Asked {
     pub reference: bool,
     pub unpin: bool,
     pub write: bool,
@@ -109,7 +109,7 @@ fn asking(reference: bool, unpin: bool, write: bool, pin: bool) -> Asked
 }
 
 // What a record asks for, by its kind: read, write, pin, unpin, and a bad one. Nothing else looks at a kind.
-pub fn asked_by(kind: u16) -> Asked
+fn asked_by(kind: u16) -> Asked
     ensures { λ r. ⌜ r ≡ askedBy kind ⌝ }
 {
     match kind {
@@ -316,7 +316,7 @@ fn enter_unpin(table: &mut Table, i: usize)
 
 // A record with that row (a hit, a miss, an unpin, else refused), on a pool that has room for it, and the head then. A refused one leaves all
 // as it was.
-pub fn enter(
+fn enter(
     h: Head,
     table: &mut Table,
     access: &mut [u32; 1024],

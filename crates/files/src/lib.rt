@@ -71,13 +71,13 @@ pub fn fetch(i: usize, space: &mut [u8]) -> usize {
     n
 }
 
-// Tells what is wrong with the file that word i names, where errno has no reason.
-pub fn failed_word(i: usize, reason: &[u8]) -> Status {
+// Tells what is wrong with the file that word i names, or with standard input where i is 0; errno has no reason for it.
+fn failed_word(i: usize, reason: &[u8]) -> Status {
     let mut space = spaces::for_word();
     let n = fetch(i, &mut space);
     let name = front(&space, n);
     tell(b"hitchyawl: ");
-    if same(name, b"-") {
+    if (i == 0) | same(name, b"-") {
         tell(b"standard input");
     } else {
         tell(name);
@@ -137,6 +137,16 @@ pub fn read(i: usize, space: &mut [u8]) -> Input {
         return no_input();
     }
     read_named(&name[..n], space)
+}
+
+// Reads the whole of an input. One that fills the space is too large.
+pub fn read_whole(i: usize, space: &mut [u8]) -> Input {
+    let input = read(i, space);
+    if input.failed | (input.size < space.len()) {
+        return input;
+    }
+    failed_word(i, b": File too large\n");
+    no_input()
 }
 
 // Whether a call did its work; where it did not, that is told.

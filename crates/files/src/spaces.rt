@@ -8,11 +8,11 @@ pub const WORD_SPACE: usize = 131072;
 // One byte more than the longest trace has, so that a longer input shows its wrong length.
 pub const TRACE_SPACE: usize = trace::BYTE_LIMIT + 1;
 
-// The longest text that is read.
-pub const IMPORT_LIMIT: usize = 1048576;
+// The longest text or image that is read. No image this long holds a pool, but the reader names what is wrong with it.
+pub const INPUT_LIMIT: usize = 1048576;
 
-// One byte more, so that a longer text shows.
-pub const IMPORT_SPACE: usize = IMPORT_LIMIT + 1;
+// One byte more, so that a longer one shows.
+pub const INPUT_SPACE: usize = INPUT_LIMIT + 1;
 
 pub fn for_word() -> [u8; WORD_SPACE]
     ensures { λ r. ⌜ 131072 ≡ length r ⌝ }
@@ -26,10 +26,10 @@ pub fn for_trace() -> [u8; TRACE_SPACE]
     [0; TRACE_SPACE]
 }
 
-pub fn for_text() -> [u8; IMPORT_SPACE]
+pub fn for_input() -> [u8; INPUT_SPACE]
     ensures { λ r. ⌜ 1048577 ≡ length r ⌝ }
 {
-    [0; IMPORT_SPACE]
+    [0; INPUT_SPACE]
 }
 
 // The text of the longest trace.

@@ -1,4 +1,5 @@
-// What each command does, with a trace that is read for it.
+// What each command does, with a trace that is read for it. What is printed is printed with errno cleared.
+use crate::carry;
 use amend::Imported;
 use files::Status;
 use files::front;
@@ -17,7 +18,7 @@ use words::names::Command;
 // A quote has a line for each of eight sizes and the trace's own.
 const QUOTE_LINES: u32 = 9;
 
-fn refused(refusal: u32) -> Status {
+pub fn refused(refusal: u32) -> Status {
     say_refused(refusal);
     printed(Status::Refused)
 }
@@ -75,30 +76,6 @@ fn export(bytes: &[u8]) -> Status {
     }
 }
 
-fn bench(bytes: &[u8], wish: Wish) -> Status {
-    let c = amend::counts(bytes, wish);
-    if c.refusal != 0 {
-        return refused(c.refusal);
-    }
-    listing::say_sheet(c.settings, c.count, c.tally);
-    printed(Status::Done)
-}
-
-fn list(bytes: &[u8]) -> Status {
-    let fresh = listing::fresh_for(bytes);
-    let replayed = listing::list(fresh, tally::zero(), bytes);
-    ended(replayed.refusal)
-}
-
-fn rows(bytes: &[u8], wish: Wish) -> Status {
-    let mut space = spaces::for_trace();
-    let refusal = amend::set(bytes, wish, &mut space);
-    if refusal != 0 {
-        return refused(refusal);
-    }
-    list(front(&space, bytes.len()))
-}
-
 // A line of a quote, with so many frames.
 fn quote_size(bytes: &[u8], wish: Wish, frames: u16) {
     let numbers = amend::quote_line(bytes, wish, frames as u64);
@@ -146,19 +123,26 @@ fn import_text(text: &[u8], request: Request) -> Status {
 }
 
 fn import(request: Request) -> Status {
-    let mut space = spaces::for_text();
-    let input = files::read(request.files[0], &mut space);
+    let mut space = spaces::for_input();
+    let input = files::read_whole(request.files[0], &mut space);
     if input.failed {
         return Status::Failed;
-    }
-    if spaces::IMPORT_LIMIT < input.size {
-        return files::failed_word(request.files[0], b": File too large\n");
     }
     files::clear_errno();
     import_text(front(&space, input.size), request)
 }
 
-// The work on a trace's bytes. What is printed is printed with errno cleared.
+fn image(request: Request) -> Status {
+    let mut space = spaces::for_input();
+    let input = files::read_whole(request.files[0], &mut space);
+    if input.failed {
+        return Status::Failed;
+    }
+    files::clear_errno();
+    ended(listing::inspect_image(front(&space, input.size)))
+}
+
+// The work on a trace's bytes, but for the replays of a `carry`.
 fn work(request: Request, bytes: &[u8]) -> Status {
     let command = request.command;
     match command {
@@ -167,11 +151,8 @@ fn work(request: Request, bytes: &[u8]) -> Status {
         Command::Convert => convert(bytes, request.files[1]),
         Command::Set => set(bytes, request.wish, request.files[1]),
         Command::Export => export(bytes),
-        Command::Bench => bench(bytes, request.wish),
-        Command::Rows => rows(bytes, request.wish),
         Command::Quote => quote(bytes, request.wish),
-        Command::Import => Status::WrongWords,
-        Command::Unknown => Status::WrongWords,
+        _ => Status::WrongWords,
     }
 }
 
@@ -189,6 +170,9 @@ pub fn run(request: Request) -> Status {
     let command = request.command;
     match command {
         Command::Import => import(request),
+        Command::Image => image(request),
+        Command::Bench => carry::replay(request),
+        Command::Rows => carry::replay(request),
         _ => on_trace(request),
     }
 }

@@ -155,8 +155,8 @@ module _ (o : Order) (s : List ℕ) (held : Held o s) where
         let near : (i < u) ⊎ (u ≤ i) = ⊎-elim (λ q. inr (omega arith)) (λ q. inl (omega arith)) (eq-zero-or-pos (u - i)) in
         ⊎-elim
         (λ (l : i < u). let f = fitting o s (imageLength i) (every-at (entryHeld o s) u i (held .fill .fits) l) in
-            let n : imageLength i + 4 ≤ length s = omega arith in
-            rw (frame-of i l) (number-at-lt o 4 (imageLength i) s bs n, f .pins))
+        let n : imageLength i + 4 ≤ length s = omega arith in
+        rw (frame-of i l) (number-at-lt o 4 (imageLength i) s bs n, f .pins))
         (λ (l : u ≤ i). rw (frame-past i l b) (omega arith, omega arith))
         near
 

@@ -222,7 +222,7 @@ pub fn read(bytes: &[u8]) -> Opened
 }
 
 // How many frames are in use.
-fn used_frames(p: Pool) -> u32
+pub fn used_frames(p: Pool) -> u32
     ensures { λ r. ⌜ (r ≡ usedIn p) × (r ≤ 128) ⌝ }
 {
     let mut n: u32 = 0;

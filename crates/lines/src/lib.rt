@@ -18,10 +18,6 @@ pub fn say_number(n: u64) {
     say_first(n);
 }
 
-fn say_word(x: u32) {
-    say_number(x as u64);
-}
-
 // 1 or 0, after a space.
 pub fn say_bool(x: bool) {
     if x { say(b" 1") } else { say(b" 0") }
@@ -39,6 +35,11 @@ pub fn say_refused(refusal: u32) {
     say_line(b"trace refused", refusal as u64);
 }
 
+// All that is said of a bad image.
+pub fn say_image_refused(refusal: u32) {
+    say_line(b"image refused", refusal as u64);
+}
+
 // An order's name, after a space.
 pub fn say_order(order: Order) {
     match order {
@@ -47,26 +48,9 @@ pub fn say_order(order: Order) {
     }
 }
 
-// The n numbers of a list from `at` on, each after a space.
-pub fn say_places(l: &[u32], at: usize, n: usize)
-    requires { ⌜ at + n ≤ length (now l) ⌝ }
-{
-    let mut j: usize = 0;
-    while j < n {
-        say_word(l[at + j]);
-        j += 1;
-    }
-}
-
-// What follows number i of a table: the last of a line ends it.
-fn ending(i: usize, width: usize) -> u8
-    requires { ⌜ (i < 65536) × (0 < width) ⌝ }
-{
-    if (i + 1) % width == 0 { b'\n' } else { b' ' }
-}
-
-// Puts a byte to the text at `at`, and answers the place after it. A full text is written and begun anew.
-fn put_byte(text: &mut [u8; 4096], at: usize, byte: u8) -> usize
+// A text that is printed in one piece: what a write for each number prints takes ten times as long. `at` is the place of
+// its next byte. Puts a byte, and answers the place after it; a full text is written and begun anew.
+pub fn put_byte(text: &mut [u8; 4096], at: usize, byte: u8) -> usize
     requires { ⌜ at < 4096 ⌝ }
     ensures { λ r. ⌜ r < 4096 ⌝ }
 {
@@ -78,7 +62,7 @@ fn put_byte(text: &mut [u8; 4096], at: usize, byte: u8) -> usize
     0
 }
 
-fn put_bytes(text: &mut [u8; 4096], at: usize, bytes: &[u8]) -> usize
+pub fn put_bytes(text: &mut [u8; 4096], at: usize, bytes: &[u8]) -> usize
     requires { ⌜ at < 4096 ⌝ }
     ensures { λ r. ⌜ r < 4096 ⌝ }
 {
@@ -91,7 +75,7 @@ fn put_bytes(text: &mut [u8; 4096], at: usize, bytes: &[u8]) -> usize
     next
 }
 
-fn put_number(text: &mut [u8; 4096], at: usize, n: u32) -> usize
+pub fn put_number(text: &mut [u8; 4096], at: usize, n: u32) -> usize
     requires { ⌜ at < 4096 ⌝ }
     ensures { λ r. ⌜ r < 4096 ⌝ }
 {
@@ -100,15 +84,52 @@ fn put_number(text: &mut [u8; 4096], at: usize, n: u32) -> usize
     put_bytes(text, at, &digits[..count])
 }
 
+// A number, after a space.
+pub fn put_next(text: &mut [u8; 4096], at: usize, n: u32) -> usize
+    requires { ⌜ at < 4096 ⌝ }
+    ensures { λ r. ⌜ r < 4096 ⌝ }
+{
+    let next = put_byte(text, at, b' ');
+    put_number(text, next, n)
+}
+
+// The n numbers of a list from `from` on, each after a space.
+pub fn put_places(text: &mut [u8; 4096], at: usize, l: &[u32], from: usize, n: usize) -> usize
+    requires { ⌜ (at < 4096) × (from + n ≤ length (now l)) ⌝ }
+    ensures { λ r. ⌜ r < 4096 ⌝ }
+{
+    let mut next = at;
+    let mut j: usize = 0;
+    while j < n {
+        next = put_next(text, next, l[from + j]);
+        j += 1;
+    }
+    next
+}
+
 // What the text holds before `at`. It comes by value, so that its length is known.
-fn say_text(text: [u8; 4096], at: usize)
+pub fn say_text(text: [u8; 4096], at: usize)
     requires { ⌜ at < 4096 ⌝ }
 {
     say(&text[0..at]);
 }
 
-// The first n numbers of a list, `width` to a line. They are gathered in a text, since a listing has tens of thousands of
-// them and a write for each takes ten times as long.
+pub fn say_places(l: &[u32], at: usize, n: usize)
+    requires { ⌜ at + n ≤ length (now l) ⌝ }
+{
+    let mut text = [0u8; 4096];
+    let end = put_places(&mut text, 0, l, at, n);
+    say_text(text, end);
+}
+
+// What follows number i of a table: the last of a line ends it.
+fn ending(i: usize, width: usize) -> u8
+    requires { ⌜ (i < 65536) × (0 < width) ⌝ }
+{
+    if (i + 1) % width == 0 { b'\n' } else { b' ' }
+}
+
+// The first n numbers of a list, `width` to a line.
 pub fn say_table(l: &[u32], n: usize, width: usize)
     requires { ⌜ (n ≤ length (now l)) × (n ≤ 65536) × (0 < width) ⌝ }
 {

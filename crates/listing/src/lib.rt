@@ -1,15 +1,17 @@
-// What is printed of a trace and of its replay: the trace's settings and counts; the sheet; and the listing, its rows, the
-// pages that were written, the pool that is left, and the counts.
+// What is printed of a trace and of its replay: the trace's settings and counts; the sheet; the listing, its rows, the
+// pages that were written, the pool that is left, and the counts; and the pool of an image.
 ghost use Prim.Native.Nat.{_+_, _<_, _≤_};
 ghost use lib.ListN.{length};
 ghost use mathlib.Core.Path.{_≡_};
 ghost use Rattle.trace.specs.Check.{checkOf, numberOfAnswer};
 ghost use Rattle.pool.specs.Pool.{freshOf};
+ghost use Rattle.image.specs.Image.{imageOf};
 ghost use Rattle.replay.specs.Calls.{countsOf};
 ghost use Rattle.listing.specs.Fresh.{freshFor};
 use lines::say;
 use lines::say_bool;
 use lines::say_first;
+use lines::say_image_refused;
 use lines::say_line;
 use lines::say_number;
 use lines::say_order;
@@ -23,6 +25,7 @@ use settings::Settings;
 use tally::Tally;
 use trace::Checked;
 use trace::Summary;
+use word::Order;
 
 // Four numbers for each record of the longest trace.
 const ROWS: usize = 4 * trace::RECORD_LIMIT;
@@ -75,24 +78,6 @@ fn say_written(written: &[u32; WRITTEN], count: u32) {
     say_table(written, kept(count as usize, WRITTEN), 1);
 }
 
-fn one_more(n: u64, used: bool) -> u64
-    requires { ⌜ n < 128 ⌝ }
-    ensures { λ r. ⌜ r ≤ n + 1 ⌝ }
-{
-    if used { n + 1 } else { n }
-}
-
-fn frames_used(p: Pool) -> u64 {
-    let mut n: u64 = 0;
-    let mut i: usize = 0;
-    while i < 128 {
-        let fr = p.frames[i];
-        n = one_more(n, fr.used);
-        i += 1;
-    }
-    n
-}
-
 fn say_fields(fr: Frame) {
     say_first(fr.page as u64);
     say_bool(fr.dirty);
@@ -130,7 +115,7 @@ fn say_pool(p: Pool) {
     say_number(p.hand as u64);
     say_number(p.sampler as u64);
     say(b"\n");
-    say_line(b"frames", frames_used(p));
+    say_line(b"frames", image::used_frames(p) as u64);
     say_frames(p);
 }
 
@@ -190,11 +175,15 @@ fn say_settings(s: Settings) {
     say_line(b"seed", s.seed as u64);
 }
 
-fn say_summary(summary: Summary, writes: u32) {
-    let order = summary.order;
+fn say_order_line(order: Order) {
     say(b"order");
     say_order(order);
     say(b"\n");
+}
+
+fn say_summary(summary: Summary, writes: u32) {
+    let order = summary.order;
+    say_order_line(order);
     let settings = summary.settings;
     say_settings(settings);
     say_line(b"records", summary.count as u64);
@@ -216,6 +205,38 @@ pub fn inspect(bytes: &[u8]) -> u32
             0
         }
     }
+}
+
+// Prints the order of an image and the pool that it holds, or that it is refused, and answers the refusal or 0.
+pub fn inspect_image(bytes: &[u8]) -> u32
+    ensures { λ r. ⌜ r ≡ imageOf (now (bytes .entry)) .refusal ⌝ }
+{
+    let opened = image::read(bytes);
+    if opened.refusal != 0 {
+        say_image_refused(opened.refusal);
+        return opened.refusal;
+    }
+    let pool = opened.pool;
+    let settings = pool.settings;
+    say_order_line(image::order_of(bytes));
+    say_settings(settings);
+    say_pool(pool);
+    opened.refusal
+}
+
+// Replays a trace and prints its sheet, or that it is refused.
+pub fn sheet(pool: Pool, tally: Tally, bytes: &[u8]) -> Ended
+    ensures { λ r. ⌜ r ≡ countsOf pool tally (now (bytes .entry)) ⌝ }
+{
+    let ended = replay::counts(pool, tally, bytes);
+    if ended.refusal != 0 {
+        say_refused(ended.refusal);
+        return ended;
+    }
+    let after = ended.pool;
+    let settings = after.settings;
+    say_sheet(settings, count_of(bytes), ended.tally);
+    ended
 }
 
 // Replays a trace and prints its listing, or that it is refused. The lists hold what any replay needs, so none is refused by 13, and the

@@ -132,8 +132,8 @@ module _ (ρ : ℕ → ℕ) (p : Pool) (ty : Typed p) (ok : soundPool p ≡ true
         let few = used-few o p ty ok in
         let front = head ++ runOf (entryBytes o r) n in
         let long : length front ≡ imageLength n =
-            length-append head (runOf (entryBytes o r) n)
-            ∙ rw (length-header o p u, run-length (entryBytes o r) 68 128 (length-entry o r (sizes o r typed-still sound-still)) n (omega arith)) (omega arith) in
+        length-append head (runOf (entryBytes o r) n)
+        ∙ rw (length-header o p u, run-length (entryBytes o r) 68 128 (length-entry o r (sizes o r typed-still sound-still)) n (omega arith)) (omega arith) in
         let part = entryBytes o p n in
         let zs = drop (suc n * 68) whole in
         let bytes = bytesOf o 4 (ρ (frameAt (p .frames) n .page)) in
@@ -152,7 +152,7 @@ module _ (ρ : ℕ → ℕ) (p : Pool) (ty : Typed p) (ok : soundPool p ≡ true
         let long = run-length (entryBytes o p) 68 128 (length-entry o p (sizes o p ty ok)) u few in
         let all : drop (u * 68) whole ≡ [] = ap (λ (k : ℕ). drop k whole) (sym long) ∙ drop-length whole in
         let here : renamedImage ρ image ≡ pagesSet ρ o image u =
-            rw (order-is o image (mark o p ty ok)) (ap (pagesSet ρ o image) (used-back o p ty ok)) in
+        rw (order-is o image (mark o p ty ok)) (ap (pagesSet ρ o image) (used-back o p ty ok)) in
         ap (λ (k : ℕ). headerBytes o r k ++ runOf (entryBytes o r) k) used-renamed
         ∙ sym (here ∙ pages-set u (omega arith) ∙ ap (λ (x : List ℕ). head ++ runOf (entryBytes o r) u ++ x) all ∙ append-nil (head ++ runOf (entryBytes o r) u))
 

@@ -17,9 +17,12 @@ fn put_commands(fd: i32) {
         \n  export [TRACE]               prints a line for each record\
         \n  import [SETTINGS] [--order high|low] TEXT OUT\
         \n                               writes the trace of such lines\
-        \n  bench [SETTINGS] [TRACE]     replays it and prints the sheet\
-        \n  rows [SETTINGS] [TRACE]      replays it and prints the listing\
-        \n  quote [SETTINGS] [TRACE]     misses and pages written by each rule at each size\n\
+        \n  bench [SETTINGS] [--from IMAGE] [--save IMAGE] [TRACE]\
+        \n                               replays it and prints the sheet\
+        \n  rows [SETTINGS] [--from IMAGE] [--save IMAGE] [TRACE]\
+        \n                               replays it and prints the listing\
+        \n  quote [SETTINGS] [TRACE]     misses and pages written by each rule at each size\
+        \n  image [IMAGE]                the pool that an image holds\n\
         \n`hitchyawl COMMAND --help` says more of a command.\n",
     );
 }
@@ -36,9 +39,16 @@ fn put_usage(fd: i32, command: Command) {
             fd,
             b"usage: hitchyawl import [SETTINGS] [--order high|low] TEXT OUT\n",
         ),
-        Command::Bench => put(fd, b"usage: hitchyawl bench [SETTINGS] [TRACE]\n"),
-        Command::Rows => put(fd, b"usage: hitchyawl rows [SETTINGS] [TRACE]\n"),
+        Command::Bench => put(
+            fd,
+            b"usage: hitchyawl bench [SETTINGS] [--from IMAGE] [--save IMAGE] [TRACE]\n",
+        ),
+        Command::Rows => put(
+            fd,
+            b"usage: hitchyawl rows [SETTINGS] [--from IMAGE] [--save IMAGE] [TRACE]\n",
+        ),
         Command::Quote => put(fd, b"usage: hitchyawl quote [SETTINGS] [TRACE]\n"),
+        Command::Image => put(fd, b"usage: hitchyawl image [IMAGE]\n"),
         Command::Unknown => put_commands(fd),
     }
 }
@@ -56,12 +66,20 @@ fn put_import(fd: i32) {
     );
 }
 
+fn put_bench(fd: i32) {
+    put(
+        fd,
+        b"\nReplays the trace, from a fresh pool if no image is given, and prints the sheet: rule, frames,\n\
+        records and six counts.\n",
+    );
+}
+
 fn put_rows(fd: i32) {
     put(
         fd,
-        b"\nReplays the trace from a fresh pool and prints `rows` and a row for each record (outcome, frame,\n\
-        page that left, batch length), `written` and the pages written, `pool` and `frames`, the pool at\n\
-        the end, and the six counts.\n",
+        b"\nReplays the trace, from a fresh pool if no image is given, and prints `rows` and a row for each\n\
+        record (outcome, frame, page that left, batch length), `written` and the pages written, `pool`\n\
+        and `frames`, the pool at the end, and the six counts.\n",
     );
 }
 
@@ -71,6 +89,14 @@ fn put_quote(fd: i32) {
         b"\nReplays the trace by each rule with 1, 2, 4, 8, 16, 32, 64, 128 and its own number of frames, and\n\
         prints a line for each number: the frames, then the misses and pages written by lru, clock and\n\
         watt.\n",
+    );
+}
+
+fn put_image(fd: i32) {
+    put(
+        fd,
+        b"\nPrints an image, which is the pool that a replay left (`bench` and `rows` save it): its byte\n\
+        order, the settings, and `pool` and `frames` as in a listing.\n",
     );
 }
 
@@ -91,15 +117,13 @@ fn put_account(fd: i32, command: Command) {
             b"\nPrints a line for each record: `read 12`, `write 12`, `pin 12` or `unpin 12`.\n",
         ),
         Command::Import => put_import(fd),
-        Command::Bench => put(
-            fd,
-            b"\nReplays the trace from a fresh pool and prints the sheet: rule, frames, records and six counts.\n",
-        ),
+        Command::Bench => put_bench(fd),
         Command::Rows => put_rows(fd),
         Command::Quote => put_quote(fd),
+        Command::Image => put_image(fd),
         Command::Unknown => put(
             fd,
-            b"\nTRACE and TEXT are files to read, OUT is a file to write.\n",
+            b"\nTRACE and TEXT are files to read, OUT is a file to write. An IMAGE is the pool that a replay left.\n",
         ),
     }
 }
@@ -119,11 +143,21 @@ fn put_settings(fd: i32) {
     );
 }
 
+fn put_images(fd: i32) {
+    put(
+        fd,
+        b"\nAn IMAGE is the pool that a replay left:\
+        \n  --from IMAGE   starts from it; it has the settings that the trace has, or the trace is refused 15\
+        \n  --save IMAGE   once all is printed, writes the pool at the end, in the trace's byte order\n",
+    );
+}
+
 fn put_rest(fd: i32) {
     put(
         fd,
-        b"\nA file is a path, or - for standard input or output; where [TRACE] is left out, standard input is\n\
-        read. After -- every word is a file. A bad trace or setting prints `trace refused N`.\n\
+        b"\nA file is a path, or - for standard input or output; where [TRACE], or [IMAGE] of `image`,\n\
+        is left out, standard input is read. After -- every word is a file. A bad trace or setting\n\
+        prints `trace refused N`, a bad image `image refused N`.\n\
         Exit status: 0 done, 1 refused, 2 wrong words, 3 a file that cannot be read or written.\n\
         \nExample:\n",
     );
@@ -140,9 +174,18 @@ fn put_example(fd: i32, command: Command) {
             fd,
             b"  hitchyawl import --rule clock --order low day.txt day.trace\n",
         ),
-        Command::Bench => put(fd, b"  hitchyawl bench --rule watt --frames 32 day.trace\n"),
-        Command::Rows => put(fd, b"  hitchyawl rows --frames 32 day.trace\n"),
+        Command::Bench => put(
+            fd,
+            b"  hitchyawl bench --rule watt --frames 32 day.trace\
+            \n  hitchyawl bench --from monday.pool --save tuesday.pool tuesday.trace\n",
+        ),
+        Command::Rows => put(
+            fd,
+            b"  hitchyawl rows --frames 32 day.trace\
+            \n  hitchyawl rows --save monday.pool monday.trace\n",
+        ),
         Command::Quote => put(fd, b"  hitchyawl quote --batch 4 day.trace\n"),
+        Command::Image => put(fd, b"  hitchyawl image monday.pool\n"),
         Command::Unknown => put(fd, b"  hitchyawl bench --frames 32 day.trace\n"),
     }
 }
@@ -154,6 +197,9 @@ pub fn say_help(command: Command) {
     put_account(fd, command);
     if taken.settings {
         put_settings(fd);
+    }
+    if taken.images {
+        put_images(fd);
     }
     put_rest(fd);
     put_example(fd, command);

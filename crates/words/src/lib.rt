@@ -29,6 +29,8 @@ pub enum Fault {
     NoOrder,
     TooFewFiles,
     TooManyFiles,
+    InputTwice,
+    OutputTaken,
 }
 
 // Of a file its word's number is kept, and 0 where none is named.
@@ -38,6 +40,9 @@ pub struct Request {
     pub files: [usize; 2],
     pub wish: Wish,
     pub low_first: bool,
+    // The image that a replay starts from, and the one that it leaves.
+    pub from: usize,
+    pub save: usize,
     // How many files are named.
     named: usize,
     // Whether the options have ended.
@@ -58,6 +63,8 @@ fn bare(command: Command, help: bool) -> Request {
         files: [0; 2],
         wish: wish::none(),
         low_first: false,
+        from: 0,
+        save: 0,
         named: 0,
         ended: false,
         waits: 0,
@@ -78,6 +85,8 @@ fn renewed(r: Request, flag: Flag, fault: Fault, place: usize) -> Request {
         files: files,
         wish: wish,
         low_first: r.low_first,
+        from: r.from,
+        save: r.save,
         named: r.named,
         ended: r.ended,
         waits: r.waits,
@@ -122,6 +131,8 @@ fn with_flag(r: Request, flag: Flag, i: usize) -> Request {
     match flag {
         Flag::Setting(_) => awaiting(r, flag, i, taken.settings),
         Flag::Order => awaiting(r, flag, i, taken.order),
+        Flag::From => awaiting(r, flag, i, taken.images),
+        Flag::Save => awaiting(r, flag, i, taken.images),
         Flag::Help => {
             next.help = true;
             next
@@ -197,6 +208,14 @@ fn with_value(r: Request, i: usize, word: &[u8]) -> Request {
     match flag {
         Flag::Setting(place) => with_setting(next, place, i, word),
         Flag::Order => with_order(next, i, word),
+        Flag::From => {
+            next.from = i;
+            next
+        }
+        Flag::Save => {
+            next.save = i;
+            next
+        }
         _ => next,
     }
 }
@@ -233,6 +252,28 @@ fn with_word(r: Request, i: usize) -> Request {
     with_flag(r, names::flag_named(word), i)
 }
 
+// Whether word i is there and names no file, but standard input or output.
+fn is_standard(i: usize) -> bool {
+    if i == 0 {
+        return false;
+    }
+    let mut space = spaces::for_word();
+    let n = fetch(i, &mut space);
+    same(front(&space, n), b"-")
+}
+
+// The faults of files that are named rightly, but that cannot be read or written beside each other.
+fn together(r: Request) -> Request {
+    let first = r.files[0];
+    if is_standard(r.from) & ((first == 0) | is_standard(first)) {
+        return faulty(r, Fault::InputTwice, r.from);
+    }
+    if is_standard(r.save) {
+        return faulty(r, Fault::OutputTaken, r.save);
+    }
+    r
+}
+
 // The faults that show once all words are read.
 fn whole(r: Request) -> Request {
     let command = r.command;
@@ -247,7 +288,7 @@ fn whole(r: Request) -> Request {
         let last = r.files[1];
         return faulty(r, Fault::TooManyFiles, last);
     }
-    r
+    together(r)
 }
 
 fn with_rest(begun: Request) -> Request {
@@ -308,6 +349,8 @@ fn tell_reason(fault: Fault) {
         Fault::NoOrder => tell(b"no such order, high or low\n"),
         Fault::TooFewFiles => tell(b"a file is missing\n"),
         Fault::TooManyFiles => tell(b"one file too many\n"),
+        Fault::InputTwice => tell(b"standard input is named twice\n"),
+        Fault::OutputTaken => tell(b"standard output is taken\n"),
     }
 }
 

@@ -11,6 +11,7 @@ pub enum Command {
     Bench,
     Rows,
     Quote,
+    Image,
     Unknown,
 }
 
@@ -19,6 +20,9 @@ pub enum Flag {
     // A setting, by its place in a wish.
     Setting(usize),
     Order,
+    // The image that a replay starts from, and the one that it leaves.
+    From,
+    Save,
     Help,
     // No option follows it.
     Last,
@@ -31,6 +35,7 @@ pub struct Takes {
     pub most: usize,
     pub settings: bool,
     pub order: bool,
+    pub images: bool,
 }
 
 // A text that says nothing else asks for help.
@@ -66,10 +71,13 @@ pub fn command_named(word: &[u8]) -> Command {
     if same(word, b"quote") {
         return Command::Quote;
     }
+    if same(word, b"image") {
+        return Command::Image;
+    }
     Command::Unknown
 }
 
-pub fn flag_named(word: &[u8]) -> Flag {
+fn setting_named(word: &[u8]) -> Flag {
     if same(word, b"--frames") {
         return Flag::Setting(wish::FRAMES);
     }
@@ -94,8 +102,18 @@ pub fn flag_named(word: &[u8]) -> Flag {
     if same(word, b"--seed") {
         return Flag::Setting(wish::SEED);
     }
+    Flag::Unknown
+}
+
+pub fn flag_named(word: &[u8]) -> Flag {
     if same(word, b"--order") {
         return Flag::Order;
+    }
+    if same(word, b"--from") {
+        return Flag::From;
+    }
+    if same(word, b"--save") {
+        return Flag::Save;
     }
     if is_help(word) {
         return Flag::Help;
@@ -103,16 +121,17 @@ pub fn flag_named(word: &[u8]) -> Flag {
     if same(word, b"--") {
         return Flag::Last;
     }
-    Flag::Unknown
+    setting_named(word)
 }
 
-// A trace, or standard input where none is named.
-fn trace_alone(settings: bool) -> Takes {
+// A trace or an image, or standard input where none is named.
+fn input_alone(settings: bool, images: bool) -> Takes {
     Takes {
         least: 0,
         most: 1,
         settings: settings,
         order: false,
+        images: images,
     }
 }
 
@@ -122,20 +141,22 @@ fn input_and_output(settings: bool, order: bool) -> Takes {
         most: 2,
         settings: settings,
         order: order,
+        images: false,
     }
 }
 
 pub fn taken_by(command: Command) -> Takes {
     match command {
-        Command::Check => trace_alone(false),
-        Command::Inspect => trace_alone(false),
+        Command::Check => input_alone(false, false),
+        Command::Inspect => input_alone(false, false),
         Command::Convert => input_and_output(false, false),
         Command::Set => input_and_output(true, false),
-        Command::Export => trace_alone(false),
+        Command::Export => input_alone(false, false),
         Command::Import => input_and_output(true, true),
-        Command::Bench => trace_alone(true),
-        Command::Rows => trace_alone(true),
-        Command::Quote => trace_alone(true),
-        Command::Unknown => trace_alone(false),
+        Command::Bench => input_alone(true, true),
+        Command::Rows => input_alone(true, true),
+        Command::Quote => input_alone(true, false),
+        Command::Image => input_alone(false, false),
+        Command::Unknown => input_alone(false, false),
     }
 }
