@@ -51,7 +51,8 @@ usage: listing < TRACE
        storedcalls > CALLS
        compare HITCHYAWL-PROGRAM BENCH-PROGRAM SERIES-PROGRAM FIRST COUNT SERIESCOUNT
        comparecalls CALLS-PROGRAM FIRST COUNT
-       session HITCHYAWL FOLDER FIRST COUNT";
+       session HITCHYAWL FOLDER FIRST COUNT
+       pace < IMAGE";
 
 fn main() -> ExitCode {
     let arguments: Vec<String> = std::env::args().skip(1).collect();
@@ -97,6 +98,11 @@ fn run(arguments: &[&str]) -> Result<(), Box<dyn Error>> {
             };
             stdout.write_all(&traces::for_timing(&load, order))?;
         }
+        ["pace"] => {
+            let mut bytes = all_of_stdin()?;
+            let refused: u32 = (0..100_000).map(|turn| read_and_write(&mut bytes, turn)).sum();
+            writeln!(stdout, "refused {refused}")?;
+        }
         ["calls"] => {
             let answers: Vec<_> = calls::calls_of(&all_of_stdin()?)
                 .iter()
@@ -131,6 +137,15 @@ fn run(arguments: &[&str]) -> Result<(), Box<dyn Error>> {
         _ => return Err(USAGE.into()),
     }
     Ok(())
+}
+
+/// Reads an image with another sampler number and writes it again, as the
+/// program `pace` does, to be timed beside it.
+fn read_and_write(bytes: &mut [u8], turn: u32) -> u32 {
+    bytes[56..60].copy_from_slice(&turn.to_le_bytes());
+    let written = image::read(bytes)
+        .and_then(|held| image::write(&held, Order::LowFirst, image::length_of(128)));
+    std::hint::black_box(written).err().unwrap_or(0)
 }
 
 fn all_of_stdin() -> io::Result<Vec<u8>> {

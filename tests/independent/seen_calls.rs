@@ -19,7 +19,8 @@ pub struct Seen {
     pub changed: Changed,
 }
 
-/// So many different images must be replayed from, sound ones and others.
+/// Of so many different images a replay or a replay to counts must be accepted,
+/// and so many unsound ones be handed to a replay.
 const LEAST_SOUND_IMAGES: usize = 500;
 const LEAST_OTHER_IMAGES: usize = 100;
 
@@ -204,7 +205,6 @@ impl Seen {
             What::Write => self.note_writing(call, answer),
             What::Step => self.note_step(call, answer, pool),
             What::Replay => {
-                self.sound_images.insert(call.image.clone());
                 self.note_features(&Held::of(pool));
                 self.note_replay(call, answer, pool);
             }
@@ -283,6 +283,7 @@ impl Seen {
         };
         match answer.refusal {
             0 => {
+                self.sound_images.insert(call.image.clone());
                 let [image, trace_order] =
                     [&call.image, &call.trace].map(|bytes| order_name(bytes));
                 self.note(format!("{image} image and {trace_order} trace"));

@@ -137,7 +137,7 @@ pub fn put_pool(text: &mut [u8; 4096], at: usize, p: Pool) -> usize
     ensures { λ r. ⌜ r < 4096 ⌝ }
 {
     let numbers = [p.k, p.hand as u32, p.sampler];
-    let used = [listing::frames_used(p)];
+    let used = [image::used_frames(p)];
     let mut next = put_settings(text, at, p.settings);
     next = put_list(text, next, b"pool", &numbers, 3);
     next = put_list(text, next, b"frames", &used, 1);

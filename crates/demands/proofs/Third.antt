@@ -25,7 +25,7 @@ use Rattle.rename.specs.Sameness.{residentPages, Renames, Given, OnlySameness}
 use Rattle.rename.proofs.Sameness.{only-sameness}
 use Rattle.rename.proofs.Calls.{replay-alike, counts-alike}
 use Rattle.rename.proofs.Steps.{step-alike}
-use Rattle.rename.proofs.Images.{saved-alike, loaded-alike, image-alike}
+use Rattle.rename.proofs.Images.{saved-alike, written-alike, loaded-alike, image-alike, step-from-image}
 use Rattle.demands.specs.Third.{SameCounts, ThirdDemand}
 
 -- a fresh pool holds no page, and renamed it is the same
@@ -77,4 +77,4 @@ module _ (ρ : ℕ → ℕ) (s : List ℕ) (bytes : (i : ℕ) → getD s i 0 < 2
 
 -- the theorem
 pub third-demand : ThirdDemand
-third-demand = record { replays = only-sameness; replay = replay-alike; counts = counts-alike; step = step-alike; transport = transport; saved = saved-alike; loaded = loaded-alike; image = image-alike }
+third-demand = record { replays = only-sameness; replay = replay-alike; counts = counts-alike; step = step-alike; transport = transport; saved = saved-alike; written = written-alike; loaded = loaded-alike; image = image-alike; image-step = step-from-image }

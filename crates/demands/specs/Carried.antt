@@ -34,7 +34,9 @@ pub record Carried : Type 0 where
   -- the records of two traces: a replay of both is the first's, gone on with from its pool and tally
   pub goes-on : (p : Pool) (t : Tally) (a b : Trace) → length (a .pages) ≡ length (a .kinds)
       → replayOf p t (joined a b) ≡ goneOn (replayOf p t a) (replayOf (replayOf p t a .pool) (replayOf p t a .tally) b)
-  -- "Monday's replay should go on Tuesday": Monday's replay to counts, its pool saved, loaded and gone on with, is one replay of both days' records
+  -- "Monday's replay should go on Tuesday": Monday's replay to counts, its pool saved, loaded and gone on with, is one replay of both days' records;
+  -- a replay with rows ends in the same pool and tally (`counts` of the second demand). Who starts Tuesday's counts at zero, as the program does, gets
+  -- what Tuesday adds: each count is the start's plus that of the rows (`counted` there)
   pub over-midnight : (p : Pool) (t : Tally) (monday : List ℕ) (e : Ended) → AreBytes monday → e ≡ countsOf p t monday → e .refusal ≡ 0
       → (o : Order) (out out′ : List ℕ) → Typed (e .pool) → SavedTo (e .pool) o out 0 out′ → (tuesday : Trace)
       → goneOn (replayOf p t (traceOf monday)) (replayOf (reloaded (e .pool) out′) (e .tally) tuesday) ≡ replayOf p t (joined (traceOf monday) tuesday)

@@ -9,7 +9,7 @@ use Rattle.host.specs.Counts.{CountsInto}
 use Rattle.rename.specs.Renamed.{renamedBytes}
 use Rattle.rename.specs.Sameness.{AreBytes, Renames, Demand}
 use Rattle.rename.specs.Calls.{ReplayDemand, CountsDemand, StepDemand}
-use Rattle.rename.specs.Images.{SavedDemand, LoadedDemand, ImageDemand}
+use Rattle.rename.specs.Images.{SavedDemand, WrittenDemand, LoadedDemand, ImageDemand, StepFromImage}
 
 -- from a fresh pool: the six counts stay as they were, and `hitchyawl_counts` answers the renamed bytes, written in an order, as it does the bytes given;
 -- written in their own order, they have the same bytes stored
@@ -30,5 +30,7 @@ pub record ThirdDemand : Type 0 where
   pub step : StepDemand
   pub transport : FreshDemand
   pub saved : SavedDemand
+  pub written : WrittenDemand
   pub loaded : LoadedDemand
   pub image : ImageDemand
+  pub image-step : StepFromImage

@@ -214,9 +214,9 @@ pub fn read(bytes: &[u8]) -> Opened
         return found;
     }
     let whole = found.pool;
-    let r = pool::check(whole);
-    if r != 0 {
-        return refused(r);
+    let unsound = pool::check(whole);
+    if unsound != 0 {
+        return refused(unsound);
     }
     found
 }

@@ -1,7 +1,7 @@
 -- The image of the renamed pool is the image with its pages renamed, and the demand holds from images.
 use mathlib.Core.Path.{_≡_, refl, ap, sym, subst, _∙_}
 use mathlib.Core.Bool.{Bool, true, false}
-use mathlib.Core.List.{List, [], _++_, append-assoc, append-nil, map}
+use mathlib.Core.List.{List, [], _∷_, _++_, append-assoc, append-nil, map}
 use mathlib.Core.Logic.{⊎-elim, _⊎_, inl, inr}
 use Prim.Native.Nat.{ℕ, zero, suc, _+_, _-_, _*_, _≤_, _<_}
 use native.Mathlib.Nat.{eq-zero-or-pos}
@@ -20,27 +20,30 @@ use Rattle.pool.specs.declared.Frame.{Frame}
 use Rattle.pool.specs.declared.Pool.{Pool}
 use Rattle.pool.specs.declared.Opened.{Opened}
 use Rattle.pool.specs.Pool.{frameAt, emptyFrame, withPage, opened}
-use Rattle.pool.specs.Sound.{soundPool}
+use Rattle.refusal.specs.Refusals.{stored}
+use Rattle.pool.specs.Sound.{soundPool, poolRefusal}
 use Rattle.pool.proofs.Sound.{told, made}
 use Rattle.pool.proofs.Sizes.{Sized}
 use Rattle.entry.specs.Run.{runOf}
 use Rattle.entry.specs.Entry.{pageIn, frameIn, fieldBytes, entryBytes}
 use Rattle.entry.proofs.Run.{run-none, run-more, run-length, run-at}
 use Rattle.image.specs.Layout.{imageLength, usedAt, usedIn, headerBytes, encodePool}
-use Rattle.image.specs.Image.{orderOf, imageOf, Typed}
+use Rattle.image.specs.Image.{orderOf, imageOf, savingRefusal, Typed}
 use Rattle.image.proofs.Laws.{order-is, length-header, length-entry}
 use Rattle.image.proofs.Back.{used-few, in-use, entry, mark, used-back, sizes, image-back}
 use Rattle.image.proofs.Undo.{read-encodes, read-sound, read-typed}
 use Rattle.tally.specs.declared.Tally.{Tally}
 use Rattle.replay.specs.Replay.{replayOf}
+use Rattle.replay.specs.Calls.{countsOf}
 use Rattle.rename.specs.Renamed.{heldPage, renamedFrame, renamedPool, renamedBytes, renamedPlayed}
 use Rattle.rename.specs.Sameness.{residentPages, pagesTogether, Renames, Given}
-use Rattle.rename.specs.Images.{pagesSet, renamedImage, SavedDemand, LoadedDemand, FromImage, ImageDemand}
+use Rattle.rename.specs.Images.{pagesSet, renamedImage, SavedDemand, WrittenDemand, LoadedDemand, FromImage, ImageDemand, StepFromImage}
 use Rattle.rename.proofs.Frames.{frame-renamed, page-renamed}
 use Rattle.rename.proofs.Pages.{residents-listed}
 use Rattle.rename.proofs.Sound.{sound-renamed, pages-fit}
 use Rattle.rename.proofs.Sameness.{only-sameness}
-use Rattle.rename.proofs.Calls.{replay-alike}
+use Rattle.rename.proofs.Calls.{replay-alike, counts-alike}
+use Rattle.rename.proofs.Steps.{step-alike}
 
 -- the first four bytes of the fields are the page's
 fields-paged : (o : Order) (fr : Frame) (page : ℕ) (rest : List ℕ) → fieldBytes o (withPage fr page) ++ rest ≡ bytesOf o 4 page ++ drop 4 (fieldBytes o fr ++ rest)
@@ -159,6 +162,14 @@ module _ (ρ : ℕ → ℕ) (p : Pool) (ty : Typed p) (ok : soundPool p ≡ true
 pub saved-alike : SavedDemand
 saved-alike ρ p ty ok names o = image-renamed ρ p ty ok names o
 
+pub written-alike : WrittenDemand
+unfolding savingRefusal poolRefusal
+written-alike ρ p ty ok names o out r₁ r₂ out₁ out₂ x y =
+    let q = renamedPool ρ p in
+    let same : savingRefusal q (length out) ≡ savingRefusal p (length out) = rw (sound-still ρ p ty ok names, ok, used-renamed ρ p ty ok names) in
+    (y .answers ∙ same ∙ sym (x .answers),
+    y .bytes-hold ∙ ap (λ (r : ℕ). stored r (encodePool o q) out) (same ∙ sym (x .answers)) ∙ ap (λ (e : List ℕ). stored r₁ e out) (saved-alike ρ p ty ok names o))
+
 pub loaded-alike : LoadedDemand
 loaded-alike ρ m bytes z names =
     let bs = bytes-of m bytes in
@@ -188,4 +199,12 @@ image-alike ρ m s t bm bs z accepted names o =
       loaded = ap (λ (a : Opened). a .refusal) loaded;
       replayed = ap (λ (q : Pool). replayOf q t (traceOf (renamedBytes ρ o s))) pool ∙ only-sameness ρ p t s given names .replayed o;
       replay = λ rows written e rows′ written′ x. replay-alike ρ p t s given names o rows written e rows′ written′ (rw pool at x);
+      counts = ap (λ (q : Pool). countsOf q t (renamedBytes ρ o s)) pool ∙ counts-alike ρ p t s given names o;
     }
+
+pub step-from-image : StepFromImage
+step-from-image ρ m t page kind bm z names list e list′ x =
+    let p = imageOf m .pool in
+    let loaded = loaded-alike ρ m bm z (names-fewer ρ (page ∷ []) (residentPages (p .frames)) names) in
+    let pool : imageOf (renamedImage ρ m) .pool ≡ renamedPool ρ p = ap (λ (a : Opened). a .pool) loaded in
+    step-alike ρ p t page kind (read-sound m (bytes-of m bm) z) names list e list′ (rw pool at x)
