@@ -142,7 +142,9 @@ fn run(arguments: &[&str]) -> Result<(), Box<dyn Error>> {
 /// Reads an image with another sampler number and writes it again, as the
 /// program `pace` does, to be timed beside it.
 fn read_and_write(bytes: &mut [u8], turn: u32) -> u32 {
-    bytes[56..60].copy_from_slice(&turn.to_le_bytes());
+    if let Some(sampler) = bytes.get_mut(56..60) {
+        sampler.copy_from_slice(&turn.to_le_bytes());
+    }
     let written = image::read(bytes)
         .and_then(|held| image::write(&held, Order::LowFirst, image::length_of(128)));
     std::hint::black_box(written).err().unwrap_or(0)

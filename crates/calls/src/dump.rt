@@ -131,7 +131,7 @@ fn put_frames(text: &mut [u8; 4096], at: usize, p: Pool) -> usize
     next
 }
 
-// All that a pool holds.
+// What a pool holds, but for unused frames.
 pub fn put_pool(text: &mut [u8; 4096], at: usize, p: Pool) -> usize
     requires { ⌜ at < 4096 ⌝ }
     ensures { λ r. ⌜ r < 4096 ⌝ }

@@ -114,7 +114,7 @@ fn replay_from(request: Request) -> Status {
     replay_trace(request, opened.pool)
 }
 
-// Where no image is named, any pool will do for its.
+// Where no image is named any pool will do: it is not looked at.
 pub fn replay(request: Request) -> Status {
     if request.from == 0 {
         let none = pool::fresh(settings::one_frame());

@@ -103,7 +103,7 @@ pub record SavedTo (p : Pool) (o : Order) (out : List ℕ) (answer : ℕ) (out�
 
 -- ---- both
 
--- what the types say of a pool: the lengths of its arrays, pages, sampler number and seed of 4 bytes, pin counts of one
+-- what the types say of a pool beyond soundness: the lengths of its arrays, pages, sampler number and seed of 4 bytes, pin counts of one
 pub record Typed (p : Pool) : Type 0 where
   pub frames : length (p .frames) ≡ frameRoom
   pub access : length (p .access) ≡ frameRoom * accessRoom

@@ -7,9 +7,8 @@ ghost use lib.ListN.{length};
 ghost use lib.Dec.{leb};
 ghost use lib.Seq.{sets};
 ghost use Rattle.search.specs.Search.{everyBelow};
-ghost use Rattle.pool.specs.Pool.{freshPool};
+ghost use Rattle.pool.specs.Pool.{freshPool, opened};
 ghost use Rattle.settings.specs.Settings.{oneFrame, settingsBytes};
-ghost use Rattle.pool.specs.Pool.{opened};
 ghost use Rattle.entry.specs.Run.{runOf};
 ghost use Rattle.entry.specs.Entry.{entryBytes};
 ghost use Rattle.image.specs.Layout.{imageHeader, imageLength, usedAt, poolTo, poolAt, usedIn, frontBytes, backBytes, headerBytes, encodePool};
@@ -113,6 +112,7 @@ fn held_refusal_in(bytes: &[u8], order: Order) -> u32
     }
 }
 
+// Refusals 1 to 14, but for soundness, or 0.
 fn held_refusal(bytes: &[u8]) -> u32
     ensures { λ r. ⌜ r ≡ heldRefusal (now (bytes .entry)) ⌝ }
 {
@@ -267,6 +267,7 @@ fn put_back(out: &mut [u8], order: Order, k: u32, hand: u16, sampler: u32)
     word::put32(out, 60, order, 0);
 }
 
+// The header, in three runs.
 fn put_header(out: &mut [u8], order: Order, p: Pool, used: u32)
     requires { ⌜ (imageHeader ≤ length (now out)) × (used ≤ 128) ⌝ }
     ensures { λ _. ⌜ now (out .exit) ≡ sets (now (out .entry)) 0 (headerBytes order p used) ⌝ }

@@ -4,7 +4,7 @@ use mathlib.Core.Bool.{Bool, true, false}
 use mathlib.Core.List.{List}
 use lib.Seq.{sets}
 
--- 1: under 48 bytes
+-- 1: under the header: 48 bytes, of an image 64
 abbrev pub tooShort : ℕ
 tooShort = 1
 
@@ -12,7 +12,7 @@ tooShort = 1
 abbrev pub unknownMark : ℕ
 unknownMark = 2
 
--- 3: edition not 1
+-- 3: edition not 1, of a trace and of an image
 abbrev pub otherEdition : ℕ
 otherEdition = 3
 

@@ -166,9 +166,10 @@ pub written-alike : WrittenDemand
 unfolding savingRefusal poolRefusal
 written-alike ρ p ty ok names o out r₁ r₂ out₁ out₂ x y =
     let q = renamedPool ρ p in
-    let same : savingRefusal q (length out) ≡ savingRefusal p (length out) = rw (sound-still ρ p ty ok names, ok, used-renamed ρ p ty ok names) in
-    (y .answers ∙ same ∙ sym (x .answers),
-    y .bytes-hold ∙ ap (λ (r : ℕ). stored r (encodePool o q) out) (same ∙ sym (x .answers)) ∙ ap (λ (e : List ℕ). stored r₁ e out) (saved-alike ρ p ty ok names o))
+    let same : savingRefusal q (length out) ≡ savingRefusal p (length out) = rw (sound-still ρ p ty ok names, ok, used-renamed ρ p ty ok names) in (
+      y .answers ∙ same ∙ sym (x .answers),
+      y .bytes-hold ∙ ap (λ (r : ℕ). stored r (encodePool o q) out) (same ∙ sym (x .answers)) ∙ ap (λ (e : List ℕ). stored r₁ e out) (saved-alike ρ p ty ok names o),
+    )
 
 pub loaded-alike : LoadedDemand
 loaded-alike ρ m bytes z names =

@@ -148,7 +148,9 @@ fn put_images(fd: i32) {
         fd,
         b"\nAn IMAGE is the pool that a replay left:\
         \n  --from IMAGE   starts from it; it has the settings that the trace has, or the trace is refused 15\
-        \n  --save IMAGE   once all is printed, writes the pool at the end, in the trace's byte order\n",
+        \n  --save IMAGE   once all is printed, writes the pool at the end, in the trace's byte order;\
+        \n                 it may be the same file\
+        \nOne of image and trace may be standard input; an image is not saved to standard output by -.\n",
     );
 }
 
