@@ -57,34 +57,8 @@ record FieldsOf (o : Order) (s : List ℕ) (p : Pool) (u : ℕ) : Type 0 where
 
 header-read : (o : Order) (p : Pool) (u : ℕ) (rest : List ℕ) → FieldsOf o (headerBytes o p u ++ rest) p u
 unfolding headerBytes settingsBytes
-header-read High p u rest = record {
-  is-edition = refl;
-  is-zero₁ = refl;
-  is-used = refl;
-  is-offset = refl;
-  is-entry = refl;
-  is-long = refl;
-  is-zero₂ = refl;
-  is-k = refl;
-  is-hand = refl;
-  is-zero₃ = refl;
-  is-sampler = refl;
-  is-zero₄ = refl;
-}
-header-read Low p u rest = record {
-  is-edition = refl;
-  is-zero₁ = refl;
-  is-used = refl;
-  is-offset = refl;
-  is-entry = refl;
-  is-long = refl;
-  is-zero₂ = refl;
-  is-k = refl;
-  is-hand = refl;
-  is-zero₃ = refl;
-  is-sampler = refl;
-  is-zero₄ = refl;
-}
+header-read High p u rest = record { is-edition = refl; is-zero₁ = refl; is-used = refl; is-offset = refl; is-entry = refl; is-long = refl; is-zero₂ = refl; is-k = refl; is-hand = refl; is-zero₃ = refl; is-sampler = refl; is-zero₄ = refl }
+header-read Low p u rest = record { is-edition = refl; is-zero₁ = refl; is-used = refl; is-offset = refl; is-entry = refl; is-long = refl; is-zero₂ = refl; is-k = refl; is-hand = refl; is-zero₃ = refl; is-sampler = refl; is-zero₄ = refl }
 
 mark-read : (o : Order) (p : Pool) (u : ℕ) (rest : List ℕ) → markOf (headerBytes o p u ++ rest) ≡ Known o
 unfolding headerBytes
@@ -211,27 +185,21 @@ module _ (o : Order) (p : Pool) (ty : Typed p) (ok : soundPool p ≡ true) where
       let e : i * 4 + m % 4 ≡ m = omega arith in
       ap (λ (k : ℕ). getD (p .write) k 0) (sym e) ∙ sound .frame i l .write .rest (m % 4) (omega arith) (omega arith)
 
-  access-back : (l : List ℕ) → l ≡ replicate 1024 0 → sets l 0 (runOf (accessRun o image) u) ≡ p .access
-  access-back l e =
-      let few = used-few in
-      let long = ty .access in
-      let ll : length l ≡ length (p .access) = ap length e ∙ length-replicate {A = ℕ} 1024 0 ∙ sym long in
-      let run : runOf (accessRun o image) u ≡ take (u * 8) (p .access) =
-      run-same (accessRun o image) (λ i. accessOf p i) u (λ i h. entry i h .access) ∙ run-parts (p .access) 8 u in
+  -- logs that read as they were, all other places zero
+  logs-back : (a l : List ℕ) (w n : ℕ) (f : ℕ → List ℕ) → length a ≡ n → l ≡ replicate n 0 → u * w ≤ n → ((i : ℕ) → i < u → f i ≡ take w (drop (i * w) a))
+      → ((m : ℕ) → u * w ≤ m → m < n → getD a m 0 ≡ 0) → sets l 0 (runOf f u) ≡ a
+  logs-back a l w n f long e fits logs zeros =
+      let ll : length l ≡ length a = ap length e ∙ length-replicate {A = ℕ} n 0 ∙ sym long in
+      let run : runOf f u ≡ take (u * w) a = run-same f (λ i. take w (drop (i * w) a)) u logs ∙ run-parts a w u in
       ap (λ (x : List ℕ). sets l 0 x) run
-      ∙ front-stored l (p .access) (u * 8) ll (omega arith)
-      (rest-same 0 l (p .access) (u * 8) ll (λ i a b. ap (λ (x : List ℕ). getD x i 0) e ∙ getD-replicate 1024 i 0 0 (omega arith) ∙ sym (access-zero i a (omega arith))))
+      ∙ front-stored l a (u * w) ll (omega arith)
+      (rest-same 0 l a (u * w) ll (λ i h b. ap (λ (x : List ℕ). getD x i 0) e ∙ getD-replicate n i 0 0 (omega arith) ∙ sym (zeros i h (omega arith))))
 
-  write-back : (l : List ℕ) → l ≡ replicate 512 0 → sets l 0 (runOf (writeRun o image) u) ≡ p .write
-  write-back l e =
-      let few = used-few in
-      let long = ty .write in
-      let ll : length l ≡ length (p .write) = ap length e ∙ length-replicate {A = ℕ} 512 0 ∙ sym long in
-      let run : runOf (writeRun o image) u ≡ take (u * 4) (p .write) =
-      run-same (writeRun o image) (λ i. writeOf p i) u (λ i h. entry i h .write) ∙ run-parts (p .write) 4 u in
-      ap (λ (x : List ℕ). sets l 0 x) run
-      ∙ front-stored l (p .write) (u * 4) ll (omega arith)
-      (rest-same 0 l (p .write) (u * 4) ll (λ i a b. ap (λ (x : List ℕ). getD x i 0) e ∙ getD-replicate 512 i 0 0 (omega arith) ∙ sym (write-zero i a (omega arith))))
+  access-back : sets (replicate 1024 0) 0 (runOf (accessRun o image) u) ≡ p .access
+  access-back = let few = used-few in logs-back (p .access) (replicate 1024 0) 8 1024 (accessRun o image) (ty .access) refl (omega arith) (λ i h. entry i h .access) access-zero
+
+  write-back : sets (replicate 512 0) 0 (runOf (writeRun o image) u) ≡ p .write
+  write-back = let few = used-few in logs-back (p .write) (replicate 512 0) 4 512 (writeRun o image) (ty .write) refl (omega arith) (λ i h. entry i h .write) write-zero
 
   -- ---- the whole
 
@@ -274,8 +242,8 @@ module _ (o : Order) (p : Pool) (ty : Typed p) (ok : soundPool p ≡ true) where
         head .is-hand ∙ number-back o 2 (p .hand) (omega arith),
         head .is-sampler ∙ number-back o 4 (p .sampler) (ty .sampler),
         frames-back (replicate frameRoom emptyFrame) refl,
-        access-back (replicate 1024 0) refl,
-        write-back (replicate 512 0) refl,
+        access-back,
+        write-back,
       )
 
   layout-back : layoutRefusal o image ≡ 0
