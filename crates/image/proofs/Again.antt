@@ -7,7 +7,7 @@ use Prim.Native.Nat.{ℕ, zero, suc, _+_, _-_, _*_, _≤_, _<_}
 use native.Mathlib.Nat.{eq-zero-or-pos}
 use native.Mathlib.Omega.{arith}
 use lib.ListN.{length, getD, take, drop, replicate, length-replicate, getD-replicate, List·getD-eq-default}
-use lib.Seq.{length-sets, take-all, getD-append-add, getD-drop}
+use lib.Seq.{sets, length-sets, take-all, getD-append-add, getD-drop}
 use borrow.Author.Tests.{eqb-true}
 use Rattle.word.specs.declared.Order.{Order}
 use Rattle.word.proofs.Laws.{Bytes, number-at-lt}
@@ -73,25 +73,20 @@ module _ (o : Order) (s : List ℕ) (held : Held o s) where
       ∙ getD-drop u (replicate frameRoom emptyFrame) (i - u) emptyFrame
       ∙ getD-replicate frameRoom (u + (i - u)) emptyFrame emptyFrame b
 
+  -- the i-th of the logs that stand at the front of n places
+  log-of : (run : ℕ → List ℕ) (w n : ℕ) → ((j : ℕ) → j < u → length (run j) ≡ w) → u * w ≤ n → (i : ℕ) → i < u → take w (drop (i * w) (sets (replicate n 0) 0 (runOf run u))) ≡ run i
+  log-of run w n long fits i l =
+      let m = run-length run w u long u (omega arith) in
+      let room = length-replicate {A = ℕ} n 0 in
+      ap (λ (x : List ℕ). take w (drop (i * w) x)) (front-run (replicate n 0) (runOf run u) (u * w) m (omega arith)) ∙ run-at run w u long u (omega arith) i l (drop (u * w) (replicate n 0))
+
   access-of : (i : ℕ) → i < u → accessOf p i ≡ accessIn o s (imageLength i)
   unfolding poolTo freshPool
-  access-of i l =
-      let few = held .fill .few in
-      let long : (j : ℕ) → j < u → length (accessRun o s j) ≡ 8 = λ j h. length-access o s (imageLength j) in
-      let n = run-length (accessRun o s) 8 u long u (omega arith) in
-      let room = length-replicate {A = ℕ} 1024 0 in
-      ap (λ (x : List ℕ). take 8 (drop (i * 8) x)) (front-run (replicate 1024 0) (runOf (accessRun o s) u) (u * 8) n (omega arith))
-      ∙ run-at (accessRun o s) 8 u long u (omega arith) i l (drop (u * 8) (replicate 1024 0))
+  access-of i l = let few = held .fill .few in log-of (accessRun o s) 8 1024 (λ j h. length-access o s (imageLength j)) (omega arith) i l
 
   write-of : (i : ℕ) → i < u → writeOf p i ≡ writeIn o s (imageLength i)
   unfolding poolTo freshPool
-  write-of i l =
-      let few = held .fill .few in
-      let long : (j : ℕ) → j < u → length (writeRun o s j) ≡ 4 = λ j h. length-write o s (imageLength j) in
-      let n = run-length (writeRun o s) 4 u long u (omega arith) in
-      let room = length-replicate {A = ℕ} 512 0 in
-      ap (λ (x : List ℕ). take 4 (drop (i * 4) x)) (front-run (replicate 512 0) (runOf (writeRun o s) u) (u * 4) n (omega arith))
-      ∙ run-at (writeRun o s) 4 u long u (omega arith) i l (drop (u * 4) (replicate 512 0))
+  write-of i l = let few = held .fill .few in log-of (writeRun o s) 4 512 (λ j h. length-write o s (imageLength j)) (omega arith) i l
 
   used-again : usedIn p ≡ u
   unfolding usedIn frameIn
