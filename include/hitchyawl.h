@@ -1,11 +1,11 @@
-/* Hitchyawl for a C transport: check a trace of edition 1, put it into the other byte order, and
- * replay it to counts.
+/* Hitchyawl for a C transport: check a trace of edition 1, put it into the other byte order, replay it
+ * to counts, and find its misses at every pool size.
  *
  * The calls are exported by the archive of the crate `host`; "For C" in the README says how to build
- * and link it. It needs memcpy and memset. The calls keep no state, allocate nothing, and may run in
- * several threads at once. hitchyawl_counts may need 256 KiB of stack, the others hardly any. While a
- * call runs, nothing else may write to its buffers, neither another thread nor another process that
- * maps the same memory, and nothing may read `out`.
+ * and link it. It needs memcpy, memmove and memset. The calls keep no state, allocate nothing, and may
+ * run in several threads at once. hitchyawl_counts may need 256 KiB of stack, the others hardly any.
+ * While a call runs, nothing else may write to its buffers, neither another thread nor another process
+ * that maps the same memory, and nothing may read `out`.
  *
  * A buffer is a pointer and its length in bytes. The memory has to be there in full, and may stand at
  * any address (nothing is asked of its alignment). The two buffers of a call must not overlap, so a
@@ -21,14 +21,15 @@
 #include <stdint.h>
 
 #define HITCHYAWL_COUNTS_BYTES 24       /* what hitchyawl_counts stores */
+#define HITCHYAWL_CURVE_BYTES 512       /* what hitchyawl_curve stores */
 #define HITCHYAWL_TRACE_BYTES_MAX 64048 /* the longest trace, 8,000 records */
 
 #ifdef __cplusplus
 extern "C" {
 #endif
 
-/* The numbered refusals. hitchyawl_check returns 0 to 8; the other two return 13 as well. 9 to 12 are
- * given to single records, 14 and 15 by calls that take a pool. */
+/* The numbered refusals. hitchyawl_check returns 0 to 8; the others return 13 as well, and
+ * hitchyawl_curve 17. 9 to 12 are given to single records, 14 and 15 by calls that take a pool. */
 enum hitchyawl_refusal {
     HITCHYAWL_ACCEPTED = 0,
     HITCHYAWL_TOO_SHORT = 1,         /* under 48 bytes */
@@ -47,7 +48,8 @@ enum hitchyawl_refusal {
     HITCHYAWL_NO_ROOM = 13,          /* a lent buffer is too short */
     HITCHYAWL_NOT_SOUND = 14,        /* pool not sound, or a count of the tally handed in
                                         above 4,000,000,000 */
-    HITCHYAWL_OTHER_SETTINGS = 15    /* trace settings differ from the pool's */
+    HITCHYAWL_OTHER_SETTINGS = 15,   /* trace settings differ from the pool's */
+    HITCHYAWL_HAS_PINS = 17          /* a pin or unpin in a trace that is to give a curve */
 };
 
 /* Whether the `length` bytes are a trace, in either byte order.
@@ -70,6 +72,15 @@ uint32_t hitchyawl_convert(const uint8_t *bytes, size_t length, uint8_t *out, si
  * on. Else returns the first of the refusals 1 to 8 that fits, then 13 where `room`, the length of
  * `out`, is less than 24; a refused call stores nothing. */
 uint32_t hitchyawl_counts(const uint8_t *bytes, size_t length, uint8_t *out, size_t room);
+
+/* The misses that LRU has with each number of frames, from a fresh pool, whatever rule and frames the
+ * trace names.
+ *
+ * Returns 0 with 128 numbers in the first 512 bytes of `out`, 4 bytes each and in the trace's own byte
+ * order: the misses with 1 frame, with 2, .. with 128; the bytes beyond them keep their contents. Else
+ * returns the first of the refusals 1 to 8 that fits, then 17 where a record is a pin or an unpin, then
+ * 13 where `room`, the length of `out`, is less than 512; a refused call stores nothing. */
+uint32_t hitchyawl_curve(const uint8_t *bytes, size_t length, uint8_t *out, size_t room);
 
 #ifdef __cplusplus
 }

@@ -1,10 +1,11 @@
 /* Calls the exports of the crate `host` as a C transport does, and holds them to their header.
  *
- *   transport NAME-high.trace NAME-low.trace COUNTS ...
+ *   transport NAME-high.trace NAME-low.trace COUNTS CURVE ...
  *
- * Each pair is one good trace in both orders, and COUNTS its six counts with spaces between. The
- * first is the printed example; it is also damaged, cut and given too little room. The first
- * expectation that fails ends the program. */
+ * Each pair is one good trace in both orders, COUNTS its six counts with spaces between, and CURVE
+ * the 128 numbers of its curve, or 17 where it has a pin or an unpin. The first is the printed
+ * example; it is also damaged, cut and given too little room. The first expectation that fails ends
+ * the program. */
 #define _POSIX_C_SOURCE 200112L
 
 #include "hitchyawl.h"
@@ -22,8 +23,19 @@ enum { BEYOND = 24 };
 /* Hits, misses, evictions, batches, written, refused: 4 bytes each. */
 enum { COUNTS = 6, COUNTS_BYTES = 24 };
 
-/* What the header says that a call may need. */
-enum { STACK_BYTES = 256 * 1024 };
+/* The misses with 1 to 128 frames: 4 bytes each. */
+enum { CURVE = 128, CURVE_BYTES = 512 };
+
+/* What the header says that a call may need: hitchyawl_counts so much, and the others hardly any, which is taken to be
+ * no more than this, of which starting the thread takes a part. */
+enum { STACK_BYTES = 256 * 1024, LITTLE_STACK_BYTES = 32 * 1024 };
+
+/* What a good trace gives: its counts, and its curve or the refusal in its place. */
+struct expected {
+    uint32_t counts[COUNTS];
+    uint32_t curve_answer;
+    uint32_t curve[CURVE];
+};
 
 struct buffer {
     uint8_t *memory; /* as it was allocated */
@@ -132,6 +144,19 @@ static struct buffer read_file(const char *path)
 
 /* ---- what the calls owe */
 
+/* A curve is refused by this number whatever the room, and nothing is stored. */
+static void expect_curve_refused(const uint8_t *bytes, size_t length, uint32_t refusal)
+{
+    static const size_t rooms[] = {CURVE_BYTES + BEYOND, CURVE_BYTES, CURVE_BYTES - 1, 1, 0};
+    struct buffer out = untouched_buffer(CURVE_BYTES + BEYOND, 1);
+    for (size_t i = 0; i < sizeof rooms / sizeof rooms[0]; i++) {
+        expect_answer("curve", refusal, hitchyawl_curve(bytes, length, out.at, rooms[i]));
+        expect_untouched(out, 0);
+    }
+    expect_answer("curve to nothing", refusal, hitchyawl_curve(bytes, length, NULL, 0));
+    release(out);
+}
+
 /* Every call refuses the bytes by this number, whatever the room, and nothing is stored. */
 static void expect_refused(const uint8_t *bytes, size_t length, uint32_t refusal)
 {
@@ -146,6 +171,7 @@ static void expect_refused(const uint8_t *bytes, size_t length, uint32_t refusal
     expect_answer("counts without room", refusal, hitchyawl_counts(bytes, length, out.at, 0));
     expect_untouched(out, 0);
     release(out);
+    expect_curve_refused(bytes, length, refusal);
 }
 
 /* The bytes `from` are accepted, and become the bytes `to` at the front of a buffer with `beyond` more. */
@@ -183,10 +209,63 @@ static void expect_counts(struct buffer trace, enum order order, const uint32_t 
     expect_count_bytes(trace, expected, beyond, shift);
 }
 
+/* The trace's curve is these bytes, at the front of a buffer with `beyond` more. */
+static void expect_curve_bytes(struct buffer trace, const uint8_t *expected, size_t beyond, size_t shift)
+{
+    struct buffer out = untouched_buffer(CURVE_BYTES + beyond, shift);
+    struct buffer before = copy_of(trace.at, trace.length, shift);
+    expect_answer("curve", HITCHYAWL_ACCEPTED, hitchyawl_curve(before.at, before.length, out.at, out.length));
+    expect_bytes("curve", expected, out.at, CURVE_BYTES);
+    expect_untouched(out, CURVE_BYTES);
+    expect_bytes("curve's input afterwards", trace.at, before.at, trace.length);
+    release(before);
+    release(out);
+}
+
+static void expect_curve(struct buffer trace, enum order order, const struct expected *expected, size_t beyond,
+                         size_t shift)
+{
+    uint8_t bytes[CURVE_BYTES];
+    if (expected->curve_answer != HITCHYAWL_ACCEPTED) {
+        expect_curve_refused(trace.at, trace.length, expected->curve_answer);
+        return;
+    }
+    for (size_t i = 0; i < CURVE; i++)
+        put32(bytes + 4 * i, expected->curve[i], order);
+    expect_curve_bytes(trace, bytes, beyond, shift);
+}
+
+static enum order order_of(struct buffer trace)
+{
+    return get32(trace.at, HIGH_FIRST) == MARK ? HIGH_FIRST : LOW_FIRST;
+}
+
+static int has_pins(struct buffer trace)
+{
+    enum order order = order_of(trace);
+    for (size_t at = HEADER_BYTES; at < trace.length; at += RECORD_BYTES)
+        if (get16(trace.at + at + IN_KIND, order) > 1)
+            return 1;
+    return 0;
+}
+
+/* The second trace, in the other order, has the curve of the first, or neither has one. */
+static void expect_same_curve(struct buffer trace, struct buffer there)
+{
+    struct expected expected = {.curve_answer = has_pins(trace) ? HITCHYAWL_HAS_PINS : HITCHYAWL_ACCEPTED};
+    enum order order = order_of(trace);
+    uint8_t out[CURVE_BYTES];
+    expect_answer("curve", expected.curve_answer, hitchyawl_curve(trace.at, trace.length, out, sizeof out));
+    if (expected.curve_answer == HITCHYAWL_ACCEPTED)
+        for (size_t i = 0; i < CURVE; i++)
+            expected.curve[i] = get32(out + 4 * i, order);
+    expect_curve(there, order == HIGH_FIRST ? LOW_FIRST : HIGH_FIRST, &expected, 0, 0);
+}
+
 /* The second trace, in the other order, has the counts of the first. */
 static void expect_same_counts(struct buffer trace, struct buffer there)
 {
-    enum order order = get32(trace.at, HIGH_FIRST) == MARK ? HIGH_FIRST : LOW_FIRST;
+    enum order order = order_of(trace);
     uint8_t out[COUNTS_BYTES];
     uint32_t counts[COUNTS];
     expect_answer("counts", HITCHYAWL_ACCEPTED, hitchyawl_counts(trace.at, trace.length, out, sizeof out));
@@ -195,7 +274,8 @@ static void expect_same_counts(struct buffer trace, struct buffer there)
     expect_counts(there, order == HIGH_FIRST ? LOW_FIRST : HIGH_FIRST, counts, 0, 0);
 }
 
-/* The bytes are accepted, converting them twice gives them again, and their counts do not depend on the order. */
+/* The bytes are accepted, converting them twice gives them again, and neither their counts nor their curve depend on the
+ * order. */
 static void expect_there_and_back(struct buffer trace)
 {
     struct buffer there = untouched_buffer(trace.length, 0);
@@ -208,6 +288,7 @@ static void expect_there_and_back(struct buffer trace)
                   hitchyawl_convert(there.at, there.length, back.at, back.length));
     expect_bytes("there and back", trace.at, back.at, trace.length);
     expect_same_counts(trace, there);
+    expect_same_curve(trace, there);
     release(there);
     release(back);
 }
@@ -224,16 +305,25 @@ static void *count_in_thread(void *argument)
     return NULL;
 }
 
-/* The call runs in a thread on `stack`, which is used from its end, and leaves what lies below STACK_BYTES alone. */
-static void expect_stack_enough(struct buffer trace)
+static void *curve_in_thread(void *argument)
 {
-    struct buffer below = {stack, stack, sizeof stack - STACK_BYTES};
+    struct buffer *trace = argument;
+    uint8_t out[CURVE_BYTES];
+    uint32_t answer = has_pins(*trace) ? HITCHYAWL_HAS_PINS : HITCHYAWL_ACCEPTED;
+    expect_answer("curve", answer, hitchyawl_curve(trace->at, trace->length, out, sizeof out));
+    return NULL;
+}
+
+/* The call runs in a thread on `stack`, which is used from its end, and leaves what lies below so many bytes alone. */
+static void expect_stack_enough(struct buffer trace, void *(*call)(void *), size_t enough)
+{
+    struct buffer below = {stack, stack, sizeof stack - enough};
     pthread_attr_t attributes;
     pthread_t thread;
     for (size_t i = 0; i < below.length; i++)
         stack[i] = untouched(i);
     if (pthread_attr_init(&attributes) != 0 || pthread_attr_setstack(&attributes, stack, sizeof stack) != 0
-        || pthread_create(&thread, &attributes, count_in_thread, &trace) != 0 || pthread_join(thread, NULL) != 0)
+        || pthread_create(&thread, &attributes, call, &trace) != 0 || pthread_join(thread, NULL) != 0)
         fail("expected a thread, got none");
     pthread_attr_destroy(&attributes);
     expect_untouched(below, 0);
@@ -241,7 +331,7 @@ static void expect_stack_enough(struct buffer trace)
 
 /* ---- a good trace */
 
-static void try_pair(struct buffer high, struct buffer low, const uint32_t *counts, const char *name)
+static void try_pair(struct buffer high, struct buffer low, const struct expected *expected, const char *name)
 {
     static const char *const addresses[] = {"even", "odd"};
     static const size_t beyonds[] = {0, 1, BEYOND};
@@ -249,41 +339,64 @@ static void try_pair(struct buffer high, struct buffer low, const uint32_t *coun
         for (size_t i = 0; i < sizeof beyonds / sizeof beyonds[0]; i++) {
             name_case("%s, high first, %zu bytes beyond, at an %s address", name, beyonds[i], addresses[shift]);
             expect_converted(high, low, beyonds[i], shift);
-            expect_counts(high, HIGH_FIRST, counts, beyonds[i], shift);
+            expect_counts(high, HIGH_FIRST, expected->counts, beyonds[i], shift);
+            expect_curve(high, HIGH_FIRST, expected, beyonds[i], shift);
             name_case("%s, low first, %zu bytes beyond, at an %s address", name, beyonds[i], addresses[shift]);
             expect_converted(low, high, beyonds[i], shift);
-            expect_counts(low, LOW_FIRST, counts, beyonds[i], shift);
+            expect_counts(low, LOW_FIRST, expected->counts, beyonds[i], shift);
+            expect_curve(low, LOW_FIRST, expected, beyonds[i], shift);
         }
     name_case("%s there and back", name);
     expect_there_and_back(high);
     expect_there_and_back(low);
     name_case("%s on a stack of 256 KiB", name);
-    expect_stack_enough(high);
+    expect_stack_enough(high, count_in_thread, STACK_BYTES);
+    name_case("%s on a stack of 32 KiB", name);
+    expect_stack_enough(high, curve_in_thread, LITTLE_STACK_BYTES);
 }
 
-static void read_counts(char *words, uint32_t *counts)
+static void read_numbers(char *words, uint32_t *numbers, size_t count)
 {
     char *rest = words, *end;
-    for (size_t i = 0; i < COUNTS; i++, rest = end) {
-        counts[i] = (uint32_t)strtoul(rest, &end, 10);
+    for (size_t i = 0; i < count; i++, rest = end) {
+        numbers[i] = (uint32_t)strtoul(rest, &end, 10);
         if (end == rest)
-            fail("expected six counts, got \"%s\"", words);
+            fail("expected %zu numbers, got \"%s\"", count, words);
     }
     if (*rest != '\0')
-        fail("expected six counts and no more, got \"%s\"", words);
+        fail("expected %zu numbers and no more, got \"%s\"", count, words);
 }
 
-static void try_files(const char *high_path, const char *low_path, char *words)
+static struct expected read_expected(char *counts, char *curve)
+{
+    struct expected expected = {.curve_answer = HITCHYAWL_ACCEPTED};
+    read_numbers(counts, expected.counts, COUNTS);
+    if (strcmp(curve, "17") == 0)
+        expected.curve_answer = HITCHYAWL_HAS_PINS;
+    else
+        read_numbers(curve, expected.curve, CURVE);
+    return expected;
+}
+
+static void try_files(const char *high_path, const char *low_path, char *counts, char *curve)
 {
     struct buffer high = read_file(high_path);
     struct buffer low = read_file(low_path);
-    uint32_t counts[COUNTS];
-    read_counts(words, counts);
+    struct expected expected = read_expected(counts, curve);
     if (low.length != high.length)
         fail("expected %zu bytes as in the other order, got %zu", high.length, low.length);
-    try_pair(high, low, counts, high_path);
+    try_pair(high, low, &expected, high_path);
     release(high);
     release(low);
+}
+
+/* Five misses with 1 frame, four with 2 and three with more, in the trace's own order. */
+static void try_example_curve(struct buffer trace, enum order order)
+{
+    uint8_t curve[CURVE_BYTES] = {0};
+    for (size_t i = 0; i < CURVE; i++)
+        curve[4 * i + (order == HIGH_FIRST ? 3 : 0)] = i == 0 ? 5 : i == 1 ? 4 : 3;
+    expect_curve_bytes(trace, curve, BEYOND, 1);
 }
 
 /* Hits 1, misses 4, evictions 2, batches 1, written 1, refused 0, in the trace's own order. */
@@ -295,6 +408,7 @@ static void try_example(const char *path, enum order order)
     };
     struct buffer trace = read_file(path);
     expect_count_bytes(trace, counts[order], BEYOND, 1);
+    try_example_curve(trace, order);
     release(trace);
 }
 
@@ -428,7 +542,38 @@ static void try_record_damages(struct buffer trace, enum order order, size_t rec
         try_damage(trace, order, &damages[i]);
 }
 
-/* Damages added one by one, the last check's first: the refusal is always that of the newest. */
+/* The example's rule and frames are no matter to its curve. */
+static void try_other_settings(struct buffer trace, enum order order)
+{
+    struct buffer other = copy_of(trace.at, trace.length, 1);
+    for (uint32_t rule = 0; rule < 3; rule++)
+        for (uint32_t frames = 1; frames <= CURVE; frames++) {
+            put16(other.at + AT_RULE, rule, order);
+            put16(other.at + AT_FRAMES, frames, order);
+            name_case("rule %lu, frames %lu, %s first", (unsigned long)rule, (unsigned long)frames, name_of(order));
+            try_example_curve(other, order);
+        }
+    release(other);
+}
+
+/* A pin or an unpin in the place of each read leaves a good trace, which has no curve. In the place of a write it makes
+ * the number of writes wrong, which is told first. */
+static void try_pins(struct buffer trace, enum order order)
+{
+    for (size_t at = HEADER_BYTES; at < trace.length; at += RECORD_BYTES)
+        for (uint32_t kind = 2; kind <= 3; kind++) {
+            struct buffer pinned = copy_of(trace.at, trace.length, 1);
+            int was_write = get16(trace.at + at + IN_KIND, order) == 1;
+            put16(pinned.at + at + IN_KIND, kind, order);
+            name_case("kind %lu at byte %zu, %s first", (unsigned long)kind, at, name_of(order));
+            expect_curve_refused(pinned.at, pinned.length, was_write ? HITCHYAWL_WRONG_WRITES : HITCHYAWL_HAS_PINS);
+            if (!was_write)
+                expect_there_and_back(pinned);
+            release(pinned);
+        }
+}
+
+/* Damages added one by one to a trace with a pin, the last check's first: the refusal is always that of the newest. */
 static void try_order_of_checks(struct buffer trace, enum order order)
 {
     uint32_t writes = get32(trace.at + AT_WRITES, order);
@@ -442,6 +587,11 @@ static void try_order_of_checks(struct buffer trace, enum order order)
         {"setting to mark", AT_MARK, 4, 0, 2},
     };
     struct buffer damaged = copy_of(trace.at, trace.length, 0);
+    if (get16(trace.at + record_at(0) + IN_KIND, order) != 0)
+        fail("expected a read first, got another record");
+    put16(damaged.at + record_at(0) + IN_KIND, 2, order);
+    name_case("a pin alone, %s first", name_of(order));
+    expect_curve_refused(damaged.at, damaged.length, HITCHYAWL_HAS_PINS);
     for (size_t i = 0; i < sizeof damages / sizeof damages[0]; i++) {
         put_damage(damaged.at, &damages[i], order);
         name_case("damages from %s together, %s first", damages[i].name, name_of(order));
@@ -489,9 +639,20 @@ static void try_short_count_rooms(struct buffer trace, enum order order)
     release(out);
 }
 
+static void try_short_curve_rooms(struct buffer trace, enum order order)
+{
+    struct buffer out = untouched_buffer(CURVE_BYTES + BEYOND, 1);
+    for (size_t room = 0; room < CURVE_BYTES; room++) {
+        name_case("room for %zu bytes of a curve, %s first", room, name_of(order));
+        expect_answer("curve", HITCHYAWL_NO_ROOM, hitchyawl_curve(trace.at, trace.length, out.at, room));
+        expect_untouched(out, 0);
+    }
+    release(out);
+}
+
 static void try_null_pointers(struct buffer trace)
 {
-    uint8_t out[COUNTS_BYTES] = {0};
+    uint8_t out[CURVE_BYTES] = {0};
     name_case("null pointers of length 0");
     expect_answer("check", HITCHYAWL_TOO_SHORT, hitchyawl_check(NULL, 0));
     expect_answer("convert of nothing to nothing", HITCHYAWL_TOO_SHORT, hitchyawl_convert(NULL, 0, NULL, 0));
@@ -500,6 +661,9 @@ static void try_null_pointers(struct buffer trace)
     expect_answer("counts of nothing to nothing", HITCHYAWL_TOO_SHORT, hitchyawl_counts(NULL, 0, NULL, 0));
     expect_answer("counts of nothing", HITCHYAWL_TOO_SHORT, hitchyawl_counts(NULL, 0, out, sizeof out));
     expect_answer("counts to nothing", HITCHYAWL_NO_ROOM, hitchyawl_counts(trace.at, trace.length, NULL, 0));
+    expect_answer("curve of nothing to nothing", HITCHYAWL_TOO_SHORT, hitchyawl_curve(NULL, 0, NULL, 0));
+    expect_answer("curve of nothing", HITCHYAWL_TOO_SHORT, hitchyawl_curve(NULL, 0, out, sizeof out));
+    expect_answer("curve to nothing", HITCHYAWL_NO_ROOM, hitchyawl_curve(trace.at, trace.length, NULL, 0));
 }
 
 static void try_faults(const char *path, enum order order)
@@ -511,10 +675,13 @@ static void try_faults(const char *path, enum order order)
     try_count_damages(trace, order);
     try_record_damages(trace, order, 0);
     try_record_damages(trace, order, (trace.length - HEADER_BYTES) / RECORD_BYTES - 1);
+    try_other_settings(trace, order);
+    try_pins(trace, order);
     try_order_of_checks(trace, order);
     try_other_lengths(trace, order);
     try_short_rooms(trace, order);
     try_short_count_rooms(trace, order);
+    try_short_curve_rooms(trace, order);
     try_null_pointers(trace);
     release(trace);
 }
@@ -528,12 +695,12 @@ static struct buffer built_trace(uint32_t count, enum order order)
     return trace;
 }
 
-static void try_built(uint32_t count, const uint32_t *counts, const char *name)
+static void try_built(uint32_t count, const struct expected *expected, const char *name)
 {
     struct buffer high = built_trace(count, HIGH_FIRST);
     struct buffer low = built_trace(count, LOW_FIRST);
     if (count <= MOST_RECORDS) {
-        try_pair(high, low, counts, name);
+        try_pair(high, low, expected, name);
     } else {
         name_case("%s", name);
         expect_refused(high.at, high.length, HITCHYAWL_TOO_MANY);
@@ -546,23 +713,26 @@ static void try_built(uint32_t count, const uint32_t *counts, const char *name)
 /* No page comes twice, so there is no hit and each unpin is refused. The 100th pin, the 300th reference, takes the last
  * of the 100 frames; the 100 pages written have left by then, and all that follows is refused. Only the number of
  * batches is the independent replay's. */
-static const uint32_t longest_counts[COUNTS] = {0, 300, 200, 30, 100, 7700};
-static const uint32_t no_counts[COUNTS] = {0};
+static const struct expected of_longest = {
+    .counts = {0, 300, 200, 30, 100, 7700},
+    .curve_answer = HITCHYAWL_HAS_PINS,
+};
+static const struct expected of_no_records = {.curve_answer = HITCHYAWL_ACCEPTED};
 
 int main(int count, char **words)
 {
-    if (count < 4 || count % 3 != 1) {
-        fprintf(stderr, "transport NAME-high.trace NAME-low.trace COUNTS ...\n");
+    if (count < 5 || count % 4 != 1) {
+        fprintf(stderr, "transport NAME-high.trace NAME-low.trace COUNTS CURVE ...\n");
         return 2;
     }
-    for (int i = 1; i < count; i += 3)
-        try_files(words[i], words[i + 1], words[i + 2]);
+    for (int i = 1; i < count; i += 4)
+        try_files(words[i], words[i + 1], words[i + 2], words[i + 3]);
     try_example(words[1], HIGH_FIRST);
     try_example(words[2], LOW_FIRST);
     try_faults(words[1], HIGH_FIRST);
     try_faults(words[2], LOW_FIRST);
-    try_built(0, no_counts, "no records");
-    try_built(MOST_RECORDS, longest_counts, "8000 records");
+    try_built(0, &of_no_records, "no records");
+    try_built(MOST_RECORDS, &of_longest, "8000 records");
     try_built(MOST_RECORDS + 1, NULL, "8001 records");
     printf("transport: %lu expectations held\n", held);
     return 0;

@@ -2,10 +2,11 @@
 //! several runs. The fixed ones stand in a list of their own.
 
 use crate::batches;
+use crate::curve_traces;
 use crate::fixed::{example, EXPORTED, OLD};
 use crate::image::Held;
 use crate::pools::{left_by_a_replay, made_up};
-use crate::program::{order_of, quoted_frames, rule_name, Bytes, Command};
+use crate::program::{encoded, order_of, quoted_frames, rule_name, Bytes, Command};
 use crate::program::{NUMBERS, RULES};
 use crate::replay::{check, go_on, Kind, Order, Pool, Settings, Tally, Trace};
 use crate::session::{shown_words, Ran, Session};
@@ -161,6 +162,8 @@ pub fn generated(seed: u64) -> Case {
     let input = match command {
         Command::Import => some_text(random),
         Command::Image => some_image(random, &traces::trace(seed)),
+        // Of other traces most have pins, and so no curve.
+        Command::Curve if random.chance(80) => curve_traces::made(u64::from(random.any())).bytes,
         _ => some_trace(random, seed),
     };
     let (name, stdin) = match random.between(0, 4) {
@@ -172,11 +175,16 @@ pub fn generated(seed: u64) -> Case {
     if command.writes() {
         files.push(some_out(random));
     }
-    let mut options = some_options(random, command);
+    let mut options: Vec<Vec<String>> = some_options(random, command)
+        .into_iter()
+        .map(Vec::from)
+        .collect();
+    options.extend(some_svg(random, command));
     let pool = command.replays().then(|| some_image(random, &input));
     let image_from_stdin = pool.is_some() && !stdin && random.chance(20);
     if pool.is_some() {
-        options.extend(some_image_options(random, image_from_stdin));
+        let images = some_image_options(random, image_from_stdin);
+        options.extend(images.into_iter().map(Vec::from));
     }
     let words = mixed(random, files, options);
     let mut case = Case::new([command.name().to_string()].into_iter().chain(words));
@@ -240,6 +248,16 @@ fn some_out(random: &mut Random) -> &'static str {
     ])
 }
 
+/// The option without a value: for a curve none, once or twice, and one time in fifty where
+/// it is wrong.
+fn some_svg(random: &mut Random, command: Command) -> Vec<Vec<String>> {
+    let times = match command {
+        Command::Curve => random.one_of(&[0, 1, 1, 2]),
+        _ => usize::from(random.chance(2)),
+    };
+    vec![vec!["--svg".to_string()]; times]
+}
+
 /// Options of a command; one time in fifty one that it does not take, or not so.
 fn some_options(random: &mut Random, command: Command) -> Vec<[String; 2]> {
     let mut options = Vec::new();
@@ -292,11 +310,11 @@ fn some_number(random: &mut Random, range: std::ops::RangeInclusive<u64>, beyond
 }
 
 /// The files in their order, and the options anywhere between them.
-fn mixed(random: &mut Random, files: Vec<&str>, options: Vec<[String; 2]>) -> Vec<String> {
+fn mixed(random: &mut Random, files: Vec<&str>, options: Vec<Vec<String>>) -> Vec<String> {
     let mut groups: Vec<Vec<String>> = files.into_iter().map(|file| vec![file.into()]).collect();
     for option in options {
         let place = random.place(groups.len() + 1);
-        groups.insert(place, option.to_vec());
+        groups.insert(place, option);
     }
     groups.concat()
 }
@@ -362,12 +380,13 @@ fn damage_line(random: &mut Random, line: &mut String) {
 
 type Scenario = fn(&mut Session) -> Result<(), String>;
 
-pub const SCENARIOS: [(&str, Scenario); 5] = [
+pub const SCENARIOS: [(&str, Scenario); 6] = [
     ("runs at once", at_once),
     ("there and back", there_and_back),
     ("quote beside bench", quote_beside_bench),
     ("import of export", import_of_export),
     ("day after day", day_after_day),
+    ("curve beside quote", curve_beside_quote),
 ];
 
 /// Runs that write one output. Their input ends for all of them at once, so that they
@@ -557,6 +576,36 @@ fn quote_beside_bench(session: &mut Session) -> Result<(), String> {
         let quote = String::from_utf8_lossy(&quote);
         if quote.lines().skip(1).ne(lines.iter().map(String::as_str)) {
             return Err(format!("sheets say {lines:?}, and the quote {quote:?}"));
+        }
+    }
+    Ok(())
+}
+
+/// Without its pins and unpins a trace has a curve, whose numbers at the sizes of a quote
+/// are those of LRU there, and which the rule and the frames do not change.
+fn curve_beside_quote(session: &mut Session) -> Result<(), String> {
+    for bytes in good_traces() {
+        let mut trace = check(&bytes).map_err(|n| format!("refused {n}"))?;
+        trace
+            .records
+            .retain(|(_, kind)| matches!(kind, Kind::Read | Kind::Write));
+        let bytes = encoded(&trace.settings, order_of(&bytes), &trace.records);
+        let curve = printed(session, &["curve"], &bytes)?;
+        let quote = printed(session, &["quote"], &bytes)?;
+        let [text, quote] = [&curve, &quote].map(|bytes| String::from_utf8_lossy(bytes));
+        let frames_and_misses = |line: &str| {
+            let words: Vec<&str> = line.split(' ').take(2).collect();
+            words.join(" ")
+        };
+        for line in quote.lines().skip(1).map(frames_and_misses) {
+            if !text.lines().any(|told| told == line) {
+                return Err(format!("{line:?} of a quote is not in the curve"));
+            }
+        }
+        for words in [["--rule", "clock"], ["--rule", "watt"], ["--frames", "3"]] {
+            let other = printed(session, &["set", words[0], words[1], "-", "-"], &bytes)?;
+            let again = printed(session, &["curve"], &other)?;
+            expect_same("the curves by two rules or sizes", &curve, &again)?;
         }
     }
     Ok(())

@@ -1,10 +1,10 @@
 //! The fixed cases of a session, most of them with what must come stated by hand.
 
 use crate::cases::{Case, Node, Output};
-use crate::fixed_images;
 use crate::program::{Bytes, Command, LONGEST_TEXT, NUMBERS};
 use crate::replay::{Order, Rule, Settings, MOST_RECORDS};
 use crate::traces::{encode, put};
+use crate::{fixed_curves, fixed_images};
 
 // ------------------------------------------------------ the files of the cases
 
@@ -210,6 +210,7 @@ pub fn fixed() -> Vec<Case> {
         standard_streams(),
         names(),
         fixed_images::fixed(),
+        fixed_curves::fixed(),
     ]
     .concat()
 }

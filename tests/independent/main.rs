@@ -1,20 +1,28 @@
 //! A second program for the replay, written from the paper alone, to be held
 //! against another one. It lists traces and series, makes them from seeds,
 //! and compares its listings and sheets with those of given programs, then once
-//! more with the pages renamed. It does the same with calls on pool images. It also runs the program `hitchyawl` as its users
-//! do, and holds all that comes of it against what must come.
+//! more with the pages renamed. It does the same with calls on pool images, and with
+//! curves. It also runs the program `hitchyawl` as its users do, and holds all that
+//! comes of it against what must come.
 
 mod batches;
 mod calls;
 mod cases;
 mod compare_calls;
+mod compare_curves;
+mod curve;
+#[cfg(test)]
+mod curve_tests;
+mod curve_traces;
 #[cfg(test)]
 mod edges;
 mod fixed;
+mod fixed_curves;
 mod fixed_images;
 mod image;
 #[cfg(test)]
 mod image_tests;
+mod picture;
 mod pools;
 mod program;
 #[cfg(test)]
@@ -49,8 +57,11 @@ usage: listing < TRACE
        calls < CALLS
        makecalls SEED > CALLS
        storedcalls > CALLS
+       curve [--svg] < TRACE
+       makecurve SEED > TRACE
        compare HITCHYAWL-PROGRAM BENCH-PROGRAM SERIES-PROGRAM FIRST COUNT SERIESCOUNT
        comparecalls CALLS-PROGRAM FIRST COUNT
+       comparecurves HITCHYAWL-PROGRAM FIRST COUNT
        session HITCHYAWL FOLDER FIRST COUNT
        pace < IMAGE";
 
@@ -120,6 +131,9 @@ fn run(arguments: &[&str]) -> Result<(), Box<dyn Error>> {
                 stdout.write_all(&call.to_bytes())?;
             }
         }
+        ["curve"] => stdout.write_all(curve::told(&all_of_stdin()?).as_bytes())?,
+        ["curve", "--svg"] => stdout.write_all(picture::told(&all_of_stdin()?).as_bytes())?,
+        ["makecurve", seed] => stdout.write_all(&curve_traces::made(seed.parse()?).bytes)?,
         ["compare", hitchyawl, bench, series, first, count, series_count] => {
             let first: u64 = first.parse()?;
             let (count, series_count) = (count.parse::<u64>()?, series_count.parse::<u64>()?);
@@ -129,6 +143,10 @@ fn run(arguments: &[&str]) -> Result<(), Box<dyn Error>> {
         ["comparecalls", program, first, count] => {
             drop(stdout);
             compare_calls::compare(program, first.parse()?, count.parse()?)?;
+        }
+        ["comparecurves", program, first, count] => {
+            drop(stdout);
+            compare_curves::compare(program, first.parse()?, count.parse()?)?;
         }
         ["session", hitchyawl, folder, first, count] => {
             drop(stdout);

@@ -2,8 +2,10 @@
 //! given its words and what stands outside, its status, what it prints, and what
 //! its output holds afterwards.
 
+use crate::curve;
 use crate::image::{self, Held};
-use crate::replay::{check, go_on, Kind, Order, Pool, Rule, Settings, Tally, Trace};
+use crate::picture::picture;
+use crate::replay::{check, go_on, tally_of, Kind, Order, Pool, Rule, Settings, Tally, Trace};
 use crate::replay::{HEADER, MOST_RECORDS, RECORD};
 use crate::sheet_of;
 use crate::traces::encode;
@@ -33,13 +35,14 @@ pub enum Command {
     Rows,
     Quote,
     Image,
+    Curve,
 }
 
 use Command::*;
 
 impl Command {
-    pub const ALL: [Command; 10] = [
-        Check, Inspect, Convert, Set, Export, Import, Bench, Rows, Quote, Image,
+    pub const ALL: [Command; 11] = [
+        Check, Inspect, Convert, Set, Export, Import, Bench, Rows, Quote, Image, Curve,
     ];
 
     pub fn name(self) -> &'static str {
@@ -54,6 +57,7 @@ impl Command {
             Rows => "rows",
             Quote => "quote",
             Image => "image",
+            Curve => "curve",
         }
     }
 
@@ -65,6 +69,7 @@ impl Command {
             }
             Rows => Some("usage: hitchyawl rows [SETTINGS] [--from IMAGE] [--save IMAGE] [TRACE]"),
             Image => Some("usage: hitchyawl image [IMAGE]"),
+            Curve => Some("usage: hitchyawl curve [--svg] [TRACE]"),
             _ => None,
         }
     }
@@ -79,6 +84,7 @@ impl Command {
             Taken::Order => self == Import,
             Taken::Rule | Taken::Number(_) => self.takes_settings(),
             Taken::From | Taken::Save => self.replays(),
+            Taken::Svg => self == Curve,
         }
     }
 
@@ -213,6 +219,7 @@ struct Given {
     order: Option<Order>,
     from: Option<Bytes>,
     save: Option<Bytes>,
+    svg: bool,
 }
 
 /// What is told where standard input is to be two files, and where standard output,
@@ -242,10 +249,10 @@ fn asked(words: &[Bytes]) -> Result<Asked, End> {
             b"-" => files.push(word.clone()),
             [b'-', ..] => match option_named(word) {
                 // Help still wins over a fault, so the rest is looked through. An option has its
-                // value whether the command takes it or not.
+                // value, if it is one with a value, whether the command takes it or not.
                 Some(option) => {
                     wrong |= !command.takes(&option);
-                    wrong |= given.take(option, rest.next()).is_none();
+                    wrong |= given.take(option, &mut rest).is_none();
                 }
                 None => wrong = true,
             },
@@ -272,6 +279,8 @@ enum Taken {
     From,
     Save,
     Number(usize),
+    /// The one without a value.
+    Svg,
 }
 
 fn option_named(word: &[u8]) -> Option<Taken> {
@@ -280,6 +289,7 @@ fn option_named(word: &[u8]) -> Option<Taken> {
         b"--rule" => return Some(Taken::Rule),
         b"--from" => return Some(Taken::From),
         b"--save" => return Some(Taken::Save),
+        b"--svg" => return Some(Taken::Svg),
         _ => {}
     }
     let mut names = NUMBERS.iter().map(|(name, _)| name.as_bytes());
@@ -287,15 +297,20 @@ fn option_named(word: &[u8]) -> Option<Taken> {
 }
 
 impl Given {
-    /// None where the value is missing or none of this option.
-    fn take(&mut self, option: Taken, value: Option<&Bytes>) -> Option<()> {
-        let value = value?;
+    /// Takes an option and its value, the next word. None where that is missing or none
+    /// of this option.
+    fn take<'a>(
+        &mut self,
+        option: Taken,
+        rest: &mut impl Iterator<Item = &'a Bytes>,
+    ) -> Option<()> {
         match option {
-            Taken::Rule => self.rule = Some(rule_named(value)?),
-            Taken::Order => self.order = Some(order_named(value)?),
-            Taken::Number(at) => self.numbers[at] = Some(number(value)?),
-            Taken::From => self.from = Some(value.clone()),
-            Taken::Save => self.save = Some(value.clone()),
+            Taken::Rule => self.rule = Some(rule_named(rest.next()?)?),
+            Taken::Order => self.order = Some(order_named(rest.next()?)?),
+            Taken::Number(at) => self.numbers[at] = Some(number(rest.next()?)?),
+            Taken::From => self.from = Some(rest.next()?.clone()),
+            Taken::Save => self.save = Some(rest.next()?.clone()),
+            Taken::Svg => self.svg = true,
         }
         Some(())
     }
@@ -436,7 +451,11 @@ impl Asked {
     }
 
     fn of_trace(&self, outside: &dyn Outside) -> Result<Bytes, End> {
-        let (order, Trace { settings, records }) = self.trace(outside)?;
+        let (order, trace) = self.trace(outside)?;
+        if self.command == Curve {
+            return self.curve(&trace);
+        }
+        let Trace { settings, records } = trace;
         let written = |order| encoded(&settings, order, &records);
         let text = match self.command {
             Convert => return Ok(written(other_order(order))),
@@ -445,7 +464,17 @@ impl Asked {
             Inspect => inspected(order, settings, &records),
             Export => records.iter().map(line_of).collect(),
             Quote => quoted(settings, &records),
-            Bench | Rows | Import | Image => unreachable!("answered otherwise"),
+            Bench | Rows | Import | Image | Curve => unreachable!("answered otherwise"),
+        };
+        Ok(text.into_bytes())
+    }
+
+    /// The program lends the list of a curve itself, so that there is room for it.
+    fn curve(&self, trace: &Trace) -> Result<Bytes, End> {
+        let misses = curve::of_trace(trace, curve::SIZES).map_err(refused)?;
+        let text = match self.given.svg {
+            true => picture(trace, &misses),
+            false => curve::lines(&misses),
         };
         Ok(text.into_bytes())
     }
@@ -624,12 +653,4 @@ fn quoted(settings: Settings, records: &[(u32, Kind)]) -> String {
         text.push('\n');
     }
     text
-}
-
-fn tally_of(settings: Settings, records: &[(u32, Kind)]) -> Tally {
-    let (mut pool, mut tally) = (Pool::fresh(settings), Tally::default());
-    for &(page, kind) in records {
-        tally.raise(&pool.step(page, kind));
-    }
-    tally
 }

@@ -502,6 +502,15 @@ impl Tally {
     }
 }
 
+/// The counts of a replay of these records from a fresh pool.
+pub fn tally_of(settings: Settings, records: &[(u32, Kind)]) -> Tally {
+    let (mut pool, mut tally) = (Pool::fresh(settings), Tally::default());
+    for &(page, kind) in records {
+        tally.raise(&pool.step(page, kind));
+    }
+    tally
+}
+
 /// What one replay put out, and what it left.
 pub struct Replayed<'a> {
     pub rows: Vec<[u32; 4]>,

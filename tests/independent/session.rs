@@ -562,7 +562,7 @@ pub struct Seen {
     helps: u64,
 }
 
-pub const REFUSALS: [&str; 16] = [
+pub const REFUSALS: [&str; 17] = [
     "trace refused 1",
     "trace refused 2",
     "trace refused 3",
@@ -572,6 +572,7 @@ pub const REFUSALS: [&str; 16] = [
     "trace refused 7",
     "trace refused 8",
     "trace refused 15",
+    "trace refused 17",
     "image refused 1",
     "image refused 2",
     "image refused 3",

@@ -12,7 +12,8 @@ use borrow.Author.Tests.{leb-true, leb-false, le-leb, lt-leb, eqb-false, ne-eqb}
 use Rattle.search.specs.declared.Found.{Found}
 use Rattle.search.specs.declared.Found.the-variants.{At, Nothing}
 use Rattle.search.specs.Search.{pick}
-use Rattle.refusal.specs.Refusals.{demand, outOfRange, noReferenceLeft, notPinned, pinsFull, notSound}
+use Rattle.refusal.proofs.Laws.{unstored}
+use Rattle.refusal.specs.Refusals.{stored, demand, outOfRange, noReferenceLeft, notPinned, pinsFull, notSound}
 use Rattle.settings.specs.declared.Settings.{Settings}
 use Rattle.settings.specs.Settings.{inRange, oneFrame}
 use Rattle.settings.proofs.Laws.{ranges}
@@ -22,9 +23,8 @@ use Rattle.trace.specs.Check.{traceOf, numberOfAnswer, readRefusal, ReadInto}
 use Rattle.trace.proofs.Laws.{number-is}
 use Rattle.trace.proofs.Accept.{number-checked}
 use Rattle.trace.proofs.Reading.{read-one}
-use Rattle.scribe.specs.Write.{writeRefusal, convertRefusal}
-use Rattle.scribe.proofs.Writing.{write-one}
-use Rattle.scribe.proofs.Converting.{convert-one}
+use Rattle.trace.specs.Encode.{encode}
+use Rattle.scribe.specs.Write.{writeRefusal, WrittenTo, converted, convertRefusal, ConvertedTo}
 use Rattle.pool.specs.declared.Frame.{Frame}
 use Rattle.pool.specs.declared.Pool.{Pool}
 use Rattle.limit.specs.Limits.{referenceLimit}
@@ -33,9 +33,9 @@ use Rattle.pool.specs.Sound.{soundPool, poolRefusal}
 use Rattle.pool.proofs.Sound.{Sound, told, made}
 use Rattle.pool.proofs.Sizes.{Sized}
 use Rattle.pool.proofs.Opening.{fresh-sound, empty-sound}
-use Rattle.image.specs.Image.{heldRefusal, openedOr, poolOf, heldOf, imageRefusal, imageOf, savingRefusal}
+use Rattle.image.specs.Layout.{encodePool}
+use Rattle.image.specs.Image.{heldRefusal, openedOr, poolOf, heldOf, imageRefusal, imageOf, savingRefusal, SavedTo}
 use Rattle.image.proofs.Again.{read-told}
-use Rattle.image.proofs.Undo.{save-one}
 use Rattle.reference.specs.Search.{findPage}
 use Rattle.tally.specs.declared.Row.{Row}
 use Rattle.tally.specs.declared.Tally.{Tally}
@@ -52,12 +52,14 @@ use Rattle.replay.proofs.Laws.{doing, replay-suc}
 use Rattle.replay.proofs.Begins.{begins-sound, begins-within}
 use Rattle.replay.proofs.Going.{going}
 use Rattle.replay.proofs.Stepping.{step-met}
-use Rattle.host.specs.Counts.{hostRefusal}
-use Rattle.host.proofs.Laws.{host-one}
+use Rattle.fresh.specs.Fresh.{freshCounts}
+use Rattle.curve.specs.Curve.{sizes, curveOf, curveRefusal, CurveInto}
+use Rattle.host.specs.Counts.{wordsOf, countBytes, hostRefusal, CountsInto}
+use Rattle.host.specs.Curve.{curveLength, CurveBytesInto}
 use Rattle.worked.proofs.Settled.{step-one, replay-one, counts-one, returns-refusal, refused-call, begun, each-record}
 use Rattle.worked.proofs.Limits.{no-frame}
 use Rattle.rename.specs.Sameness.{Stored}
-use Rattle.demands.specs.First.{Calls, oneRefused, OnlyShown, WantsFrame, NoFrame, InStep, InReplay, FirstDemand}
+use Rattle.demands.specs.First.{Call, Calls, oneRefused, OnlyShown, WantsFrame, NoFrame, InStep, InReplay, FirstDemand}
 
 -- ---- calls
 
@@ -139,6 +141,19 @@ held-answers s = go (heldRefusal s)
     go zero = (refl, λ h. absurd (h refl))
     go (suc r) = (refl, λ h. refl)
 
+-- a call that is lent one list, from a contract that gives its number and what the list holds then
+lent : (Into : ℕ → List ℕ → Type 0) (n : ℕ) (numbers out : List ℕ) → Into n (stored n numbers out) → ((r : ℕ) (l : List ℕ) → Into r l → r ≡ n)
+    → ((r : ℕ) (l : List ℕ) → Into r l → l ≡ stored n numbers out) → Call (ℕ × List ℕ) (λ o. Into (o .0) (o .1)) (λ o. o .0) n (λ o. o .1 ≡ out)
+lent Into n numbers out some answers holds = record {
+  ends = ((n, stored n numbers out), some);
+  one = λ a b x y.
+      let e = answers (a .0) (a .1) x ∙ sym (answers (b .0) (b .1) y) in
+      let f = holds (a .0) (a .1) x ∙ sym (holds (b .0) (b .1) y) in
+      λ i. (e i, f i);
+  fits = λ a x. answers (a .0) (a .1) x;
+  still = λ a x ne. holds (a .0) (a .1) x ∙ sym (unstored n numbers out (λ e. ne (answers (a .0) (a .1) x ∙ e)));
+}
+
 calls : Calls
 calls = record {
   read = λ s pages kinds. record {
@@ -147,18 +162,9 @@ calls = record {
     fits = read-fits s pages kinds;
     still = read-still s pages kinds;
   };
-  write = λ t out. record {
-    ends = ((_, _), record { answers = refl; bytes-hold = refl });
-    one = λ a b x y. let e = write-one t out (a .0) (b .0) (a .1) (b .1) x y in λ i. (e .0 i, e .1 i);
-    fits = λ a x. x .answers;
-    still = λ a x ne. x .bytes-hold ∙ rw (past (writeRefusal t (length out)) (λ e. ne (x .answers ∙ e)) .1);
-  };
-  convert = λ s out. record {
-    ends = ((_, _), record { answers = refl; bytes-hold = refl });
-    one = λ a b x y. let e = convert-one s out (a .0) (b .0) (a .1) (b .1) x y in λ i. (e .0 i, e .1 i);
-    fits = λ a x. x .answers;
-    still = λ a x ne. x .bytes-hold ∙ rw (past (convertRefusal s (length out)) (λ e. ne (x .answers ∙ e)) .1);
-  };
+  write = λ t out. lent (WrittenTo t out) (writeRefusal t (length out)) (encode t) out (record { answers = refl; bytes-hold = refl }) (λ r l x. x .answers) (λ r l x. x .bytes-hold);
+  convert = λ s out.
+      lent (ConvertedTo s out) (convertRefusal s (length out)) (converted (traceOf s)) out (record { answers = refl; bytes-hold = refl }) (λ r l x. x .answers) (λ r l x. x .bytes-hold);
   step = λ p t page kind list. record {
     ends = ((_, _), record { answers = refl; list-holds = refl });
     one = λ a b x y. let e = step-one p t page kind list (a .0) (b .0) (a .1) (b .1) x y in λ i. (e .0 i, e .1 i);
@@ -172,22 +178,20 @@ calls = record {
     still = λ a x ne. refused-call p t s rows written (a .0) (a .1) (a .2) x ne;
   };
   counts = λ p t s. record { ends = (countsOf p t s, refl); one = counts-one p t s; fits = counts-fits p t s; still = counts-still p t s };
-  transport = λ s out. record {
-    ends = ((_, _), record { answers = refl; out-holds = refl });
-    one = λ a b x y. let e = host-one s out (a .0) (b .0) (a .1) (b .1) x y in λ i. (e .0 i, e .1 i);
-    fits = λ a x. x .answers;
-    still = λ a x ne. x .out-holds ∙ rw (past (hostRefusal s (length out)) (λ e. ne (x .answers ∙ e)) .1);
-  };
+  transport = λ s out.
+      lent (CountsInto s out) (hostRefusal s (length out)) (countBytes (traceOf s .order) (freshCounts (traceOf s))) out (record { answers = refl; out-holds = refl }) (λ r l x. x .answers)
+      (λ r l x. x .out-holds);
+  curve = λ s list.
+      lent (CurveInto s list) (curveRefusal s sizes (length list)) (curveOf (traceOf s .pages)) list (record { answers = refl; list-holds = refl }) (λ r l x. x .answers) (λ r l x. x .list-holds);
+  curve-bytes = λ s out.
+      lent (CurveBytesInto s out) (curveRefusal s curveLength (length out)) (wordsOf (traceOf s .order) (curveOf (traceOf s .pages))) out (record { answers = refl; out-holds = refl })
+      (λ r l x. x .answers) (λ r l x. x .out-holds);
   check = number-checked;
   fresh = λ x. (fresh-refusal x, fresh-sound x);
   image = image-answers;
   held = held-answers;
-  save = λ p o out. record {
-    ends = ((_, _), record { answers = refl; bytes-hold = refl });
-    one = λ a b x y. let e = save-one p o out (a .0) (b .0) (a .1) (b .1) x y in λ i. (e .0 i, e .1 i);
-    fits = λ a x. x .answers;
-    still = λ a x ne. x .bytes-hold ∙ rw (past (savingRefusal p (length out)) (λ e. ne (x .answers ∙ e)) .1);
-  };
+  save = λ p o out.
+      lent (SavedTo p o out) (savingRefusal p (length out)) (encodePool o p) out (record { answers = refl; bytes-hold = refl }) (λ r l x. x .answers) (λ r l x. x .bytes-hold);
   pool-check = sound-checked;
 }
 

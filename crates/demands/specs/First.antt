@@ -31,7 +31,9 @@ use Rattle.replay.specs.declared.Stepped.{Stepped}
 use Rattle.replay.specs.declared.Ended.{Ended}
 use Rattle.replay.specs.Replay.{replayTo}
 use Rattle.replay.specs.Calls.{stepRefusal, StepInto, countsRefusal, countsOf, replayRefusal, ReplayInto}
+use Rattle.curve.specs.Curve.{sizes, curveRefusal, CurveInto}
 use Rattle.host.specs.Counts.{hostRefusal, CountsInto}
+use Rattle.host.specs.Curve.{curveLength, CurveBytesInto}
 use Rattle.worked.specs.Rows.{rowIn}
 use Rattle.rename.specs.Sameness.{Stored}
 
@@ -69,6 +71,11 @@ pub record Calls : Type 0 where
   pub counts : (p : Pool) (t : Tally) (s : List ℕ) → Call Ended (λ e. e ≡ countsOf p t s) (λ e. e .refusal) (countsRefusal p t s) (λ e. (e .pool ≡ p) × (e .tally ≡ t))
   -- `hitchyawl_counts`
   pub transport : (s out : List ℕ) → Call (ℕ × List ℕ) (λ o. CountsInto s out (o .0) (o .1)) (λ o. o .0) (hostRefusal s (length out)) (λ o. o .1 ≡ out)
+  -- `curve::misses`
+  pub curve : (s list : List ℕ) → Call (ℕ × List ℕ) (λ o. CurveInto s list (o .0) (o .1)) (λ o. o .0) (curveRefusal s sizes (length list)) (λ o. o .1 ≡ list)
+  -- `hitchyawl_curve`
+  pub curve-bytes : (s out : List ℕ)
+      → Call (ℕ × List ℕ) (λ o. CurveBytesInto s out (o .0) (o .1)) (λ o. o .0) (curveRefusal s curveLength (length out)) (λ o. o .1 ≡ out)
   -- `trace::check` and `hitchyawl_check` are lent nothing
   pub check : (s : List ℕ) → numberOfAnswer (checkOf s) ≡ refusalOf s
   -- nor is `pool::fresh`; what it hands back is sound, refused or not

@@ -5,7 +5,9 @@ use mathlib.Core.List.{List}
 use Rattle.word.specs.declared.Order.{Order}
 use Rattle.trace.specs.Check.{refusalOf, traceOf}
 use Rattle.fresh.specs.Fresh.{freshCounts}
+use Rattle.curve.specs.Curve.{CurveInto}
 use Rattle.host.specs.Counts.{CountsInto}
+use Rattle.host.specs.Curve.{CurveBytesInto}
 use Rattle.rename.specs.Renamed.{renamedBytes}
 use Rattle.rename.specs.Sameness.{AreBytes, Renames, Demand}
 use Rattle.rename.specs.Calls.{ReplayDemand, CountsDemand, StepDemand}
@@ -22,13 +24,24 @@ pub record SameCounts (ρ : ℕ → ℕ) (s : List ℕ) (o : Order) : Type 0 whe
 abbrev pub FreshDemand : Type 0
 FreshDemand = (ρ : ℕ → ℕ) (s : List ℕ) → AreBytes s → refusalOf s ≡ 0 → Renames ρ (traceOf s .pages) → (o : Order) → SameCounts ρ s o
 
--- the demand: of the definition of a replay, of the calls by their contracts, of the transport's counts, and of images
+-- the curve stays as it was: `curve::misses` answers and stores for the renamed bytes what it does for the bytes given, whatever their order, and so does
+-- `hitchyawl_curve`, which stores the same bytes where they are written in their own order
+pub record SameCurve (ρ : ℕ → ℕ) (s : List ℕ) (o : Order) : Type 0 where
+  pub curve : (list : List ℕ) (r r′ : ℕ) (list₁ list₂ : List ℕ) → CurveInto s list r list₁ → CurveInto (renamedBytes ρ o s) list r′ list₂ → (r′ ≡ r) × (list₂ ≡ list₁)
+  pub answer : (out : List ℕ) (r r′ : ℕ) (out₁ out₂ : List ℕ) → CurveBytesInto s out r out₁ → CurveBytesInto (renamedBytes ρ o s) out r′ out₂ → r′ ≡ r
+  pub stored : (out : List ℕ) (r r′ : ℕ) (out₁ out₂ : List ℕ) → CurveBytesInto s out r out₁ → CurveBytesInto (renamedBytes ρ o s) out r′ out₂ → o ≡ traceOf s .order → out₂ ≡ out₁
+
+abbrev pub CurvesDemand : Type 0
+CurvesDemand = (ρ : ℕ → ℕ) (s : List ℕ) → AreBytes s → refusalOf s ≡ 0 → Renames ρ (traceOf s .pages) → (o : Order) → SameCurve ρ s o
+
+-- the demand: of the definition of a replay, of the calls by their contracts, of the transport's counts, of the curve, and of images
 pub record ThirdDemand : Type 0 where
   pub replays : Demand
   pub replay : ReplayDemand
   pub counts : CountsDemand
   pub step : StepDemand
   pub transport : FreshDemand
+  pub curves : CurvesDemand
   pub saved : SavedDemand
   pub written : WrittenDemand
   pub loaded : LoadedDemand

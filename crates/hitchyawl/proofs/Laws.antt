@@ -1,4 +1,5 @@
--- What is saved: a replay that is not refused leaves a sound pool, and its image has room in the longest one's.
+-- What is saved: a replay that is not refused leaves a sound pool, and its image has room in the longest one's. What is
+-- drawn: the own frames are within the curve.
 use mathlib.Core.Path.{_≡_, refl, ap, sym, subst, _∙_}
 use mathlib.Core.Bool.{true}
 use mathlib.Core.List.{List}
@@ -10,7 +11,9 @@ use Rattle.word.specs.declared.Order.{Order}
 use Rattle.refusal.specs.Refusals.{demand, orElse, notSound, otherSettings}
 use Rattle.refusal.proofs.Laws.{met}
 use Rattle.settings.specs.Settings.{sameSettings}
-use Rattle.trace.specs.Check.{refusalOf, traceOf}
+use Rattle.settings.proofs.Laws.{ranges}
+use Rattle.trace.specs.declared.Summary.{Summary}
+use Rattle.trace.specs.Check.{refusalOf, traceOf, Promised}
 use Rattle.pool.specs.declared.Pool.{Pool}
 use Rattle.pool.specs.Sound.{soundPool}
 use Rattle.pool.proofs.Sound.{told, made}
@@ -46,3 +49,7 @@ module _ (p : Pool) (t : Tally) (s : List ℕ) where
       let none : countsRefusal p t s ≡ 0 = sym (number-is (countsRefusal p t s) (replayOf p t (traceOf s))) ∙ sym (ap (λ (v : Ended). v .refusal) x) ∙ n in
       let end : e ≡ endedOf 0 p t (replayOf p t (traceOf s)) = x ∙ rw none in
       subst (λ (v : Ended). soundPool (v .pool) ≡ true) (sym end) (end-sound z (begins none))
+
+-- an accepted trace's own frames, which are drawn
+pub own-frames : (s : List ℕ) (h : Summary) → Promised s h → (1 ≤ h .settings .frames) × (h .settings .frames ≤ 128)
+own-frames s h p = rw (p .summary) (ranges (traceOf s .settings) (p .holds .range) .frames)

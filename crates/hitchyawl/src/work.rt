@@ -1,5 +1,6 @@
 // What each command does, with a trace that is read for it. What is printed is printed with errno cleared.
 use crate::carry;
+use crate::sizes;
 use amend::Imported;
 use files::Status;
 use files::front;
@@ -152,6 +153,7 @@ fn work(request: Request, bytes: &[u8]) -> Status {
         Command::Set => set(bytes, request.wish, request.files[1]),
         Command::Export => export(bytes),
         Command::Quote => quote(bytes, request.wish),
+        Command::Curve => sizes::curve(bytes, request.svg),
         _ => Status::WrongWords,
     }
 }

@@ -23,10 +23,6 @@ use Rattle.image.proofs.Back.{length-image, image-back}
 use Rattle.image.proofs.Again.{read-told, read-number, read-pool, image-again, image-typed}
 
 module _ (p : Pool) (o : Order) (out : List ℕ) where
-  -- the writer's contract allows one outcome
-  pub save-one : (a b : ℕ) (out₁ out₂ : List ℕ) → SavedTo p o out a out₁ → SavedTo p o out b out₂ → (a ≡ b) × (out₁ ≡ out₂)
-  save-one a b out₁ out₂ x y = (x .answers ∙ sym (y .answers), x .bytes-hold ∙ sym (y .bytes-hold))
-
   -- where nothing is refused the pool is sound, and there is room
   pub save-grants : (out′ : List ℕ) → SavedTo p o out 0 out′ → (soundPool p ≡ true) × (imageLength (usedIn p) ≤ length out) × (out′ ≡ sets out 0 (encodePool o p))
   unfolding savingRefusal

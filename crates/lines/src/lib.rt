@@ -75,13 +75,20 @@ pub fn put_bytes(text: &mut [u8; 4096], at: usize, bytes: &[u8]) -> usize
     next
 }
 
-pub fn put_number(text: &mut [u8; 4096], at: usize, n: u32) -> usize
+pub fn put_long(text: &mut [u8; 4096], at: usize, n: u64) -> usize
     requires { ⌜ at < 4096 ⌝ }
     ensures { λ r. ⌜ r < 4096 ⌝ }
 {
     let mut digits = [0u8; 20];
-    let count = io::decimal(n as u64, &mut digits);
+    let count = io::decimal(n, &mut digits);
     put_bytes(text, at, &digits[..count])
+}
+
+pub fn put_number(text: &mut [u8; 4096], at: usize, n: u32) -> usize
+    requires { ⌜ at < 4096 ⌝ }
+    ensures { λ r. ⌜ r < 4096 ⌝ }
+{
+    put_long(text, at, n as u64)
 }
 
 // A number, after a space.

@@ -64,6 +64,10 @@ notSound = 14
 abbrev pub otherSettings : ℕ
 otherSettings = 15
 
+-- 17: a pin or unpin is present in a trace that is to give a curve
+abbrev pub hasPins : ℕ
+hasPins = 17
+
 -- what follows where a demand is met, else its refusal: demands written one after the other are checked in that order
 abbrev pub demand : Bool → ℕ → ℕ → ℕ
 demand true refusal after = after

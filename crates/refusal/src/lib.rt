@@ -32,6 +32,8 @@ pub const NOT_SOUND: u32 = 14;
 
 pub const OTHER_SETTINGS: u32 = 15;
 
+pub const HAS_PINS: u32 = 17;
+
 // What follows where the demand is met, else the refusal.
 pub fn demanded(met: bool, refusal: u32, after: u32) -> u32
     ensures { λ r. ⌜ r ≡ demand met refusal after ⌝ }

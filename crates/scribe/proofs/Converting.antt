@@ -98,7 +98,3 @@ convert-convert s r mid out q out′ z back fits c =
     let d = decode-whole (take (length s) mid) (turned (traceOf s)) (b .0) in
     let l = le-leb (length (take (length s) mid)) (length out) fits in
     (rw (c .answers, d .0, l), rw (c .bytes-hold, d .0, l, d .1, b .1))
-
--- any two outcomes that the converter's contract allows are the same
-pub convert-one : (s out : List ℕ) (a b : ℕ) (out₁ out₂ : List ℕ) → ConvertedTo s out a out₁ → ConvertedTo s out b out₂ → (a ≡ b) × (out₁ ≡ out₂)
-convert-one s out a b out₁ out₂ x y = (x .answers ∙ sym (y .answers), x .bytes-hold ∙ sym (y .bytes-hold))

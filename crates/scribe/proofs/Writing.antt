@@ -51,7 +51,3 @@ write-read t r out pages kinds answer pages′ kinds′ z back p k i =
 pub read-write : (s : List ℕ) (h : Summary) (pages kinds out : List ℕ) (r : ℕ) (out′ : List ℕ) → WritesAgain s (Accepted h) pages kinds → r ≡ 0
     → WrittenTo (traceFrom (h .settings) (h .order) (take (h .count) pages) (take (h .count) kinds)) out r out′ → out′ ≡ sets out 0 s
 read-write s h pages kinds out r out′ again z w = rw (← again h refl) (rw (sym (w .answers) ∙ z) at (w .bytes-hold))
-
--- any two outcomes that the writer's contract allows are the same
-pub write-one : (t : Trace) (out : List ℕ) (a b : ℕ) (out₁ out₂ : List ℕ) → WrittenTo t out a out₁ → WrittenTo t out b out₂ → (a ≡ b) × (out₁ ≡ out₂)
-write-one t out a b out₁ out₂ x y = (x .answers ∙ sym (y .answers), x .bytes-hold ∙ sym (y .bytes-hold))

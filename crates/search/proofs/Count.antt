@@ -14,7 +14,7 @@ pub count-none : (ok : ℕ → Bool) → countBelow ok 0 ≡ 0
 unfolding countBelow
 count-none ok = refl
 
-count-suc : (ok : ℕ → Bool) (n : ℕ) → countBelow ok (suc n) ≡ countBelow ok n + oneIf (ok n)
+pub count-suc : (ok : ℕ → Bool) (n : ℕ) → countBelow ok (suc n) ≡ countBelow ok n + oneIf (ok n)
 unfolding countBelow
 count-suc ok n = refl
 

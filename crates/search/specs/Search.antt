@@ -16,6 +16,10 @@ abbrev pub onFound {ℓ} : {A : Type ℓ} → Found → (ℕ → A) → A → A
 onFound (At i) f d = f i
 onFound Nothing f d = d
 
+-- whether something was found
+abbrev pub isFound : Found → Bool
+isFound found = onFound found (λ _. true) false
+
 -- what is best when n is offered against what was best: n only where it is less
 abbrev pub better : (ℕ → ℕ → Bool) → ℕ → Found → Found
 better less n Nothing = At n

@@ -22,7 +22,8 @@ fn put_commands(fd: i32) {
         \n  rows [SETTINGS] [--from IMAGE] [--save IMAGE] [TRACE]\
         \n                               replays it and prints the listing\
         \n  quote [SETTINGS] [TRACE]     misses and pages written by each rule at each size\
-        \n  image [IMAGE]                the pool that an image holds\n\
+        \n  image [IMAGE]                the pool that an image holds\
+        \n  curve [--svg] [TRACE]        LRU's misses with 1 to 128 frames, as lines or as a picture\n\
         \n`hitchyawl COMMAND --help` says more of a command.\n",
     );
 }
@@ -49,6 +50,7 @@ fn put_usage(fd: i32, command: Command) {
         ),
         Command::Quote => put(fd, b"usage: hitchyawl quote [SETTINGS] [TRACE]\n"),
         Command::Image => put(fd, b"usage: hitchyawl image [IMAGE]\n"),
+        Command::Curve => put(fd, b"usage: hitchyawl curve [--svg] [TRACE]\n"),
         Command::Unknown => put_commands(fd),
     }
 }
@@ -100,6 +102,17 @@ fn put_image(fd: i32) {
     );
 }
 
+fn put_curve(fd: i32) {
+    put(
+        fd,
+        b"\nPrints the misses that LRU has with 1 to 128 frames, from a fresh pool and whatever rule the trace\n\
+        names: a line for each number of frames, which comes first. A trace with a pin or an unpin is\n\
+        refused 17.\n\
+        \n  --svg          draws them instead, as an SVG picture 180 by 110 mm, with the trace's own frames\
+        \n                 marked\n",
+    );
+}
+
 fn put_account(fd: i32, command: Command) {
     match command {
         Command::Check => put(fd, b"\nPrints `accepted`.\n"),
@@ -121,6 +134,7 @@ fn put_account(fd: i32, command: Command) {
         Command::Rows => put_rows(fd),
         Command::Quote => put_quote(fd),
         Command::Image => put_image(fd),
+        Command::Curve => put_curve(fd),
         Command::Unknown => put(
             fd,
             b"\nTRACE and TEXT are files to read, OUT is a file to write. An IMAGE is the pool that a replay left.\n",
@@ -188,6 +202,11 @@ fn put_example(fd: i32, command: Command) {
         ),
         Command::Quote => put(fd, b"  hitchyawl quote --batch 4 day.trace\n"),
         Command::Image => put(fd, b"  hitchyawl image monday.pool\n"),
+        Command::Curve => put(
+            fd,
+            b"  hitchyawl curve day.trace\
+            \n  hitchyawl curve --svg day.trace > day.svg\n",
+        ),
         Command::Unknown => put(fd, b"  hitchyawl bench --frames 32 day.trace\n"),
     }
 }

@@ -43,6 +43,8 @@ pub struct Request {
     // The image that a replay starts from, and the one that it leaves.
     pub from: usize,
     pub save: usize,
+    // Whether a picture is asked for.
+    pub svg: bool,
     // How many files are named.
     named: usize,
     // Whether the options have ended.
@@ -65,6 +67,7 @@ fn bare(command: Command, help: bool) -> Request {
         low_first: false,
         from: 0,
         save: 0,
+        svg: false,
         named: 0,
         ended: false,
         waits: 0,
@@ -87,6 +90,7 @@ fn renewed(r: Request, flag: Flag, fault: Fault, place: usize) -> Request {
         low_first: r.low_first,
         from: r.from,
         save: r.save,
+        svg: r.svg,
         named: r.named,
         ended: r.ended,
         waits: r.waits,
@@ -124,6 +128,16 @@ fn awaiting(r: Request, flag: Flag, i: usize, taken: bool) -> Request {
     faulty(next, Fault::OptionNotTaken, i)
 }
 
+// A request for a picture, where the command draws one.
+fn drawn(r: Request, i: usize, taken: bool) -> Request {
+    let mut next = r;
+    next.svg = true;
+    if taken {
+        return next;
+    }
+    faulty(r, Fault::OptionNotTaken, i)
+}
+
 fn with_flag(r: Request, flag: Flag, i: usize) -> Request {
     let command = r.command;
     let taken = names::taken_by(command);
@@ -133,6 +147,7 @@ fn with_flag(r: Request, flag: Flag, i: usize) -> Request {
         Flag::Order => awaiting(r, flag, i, taken.order),
         Flag::From => awaiting(r, flag, i, taken.images),
         Flag::Save => awaiting(r, flag, i, taken.images),
+        Flag::Svg => drawn(r, i, taken.svg),
         Flag::Help => {
             next.help = true;
             next

@@ -12,6 +12,7 @@ pub enum Command {
     Rows,
     Quote,
     Image,
+    Curve,
     Unknown,
 }
 
@@ -23,6 +24,8 @@ pub enum Flag {
     // The image that a replay starts from, and the one that it leaves.
     From,
     Save,
+    // A picture is asked for.
+    Svg,
     Help,
     // No option follows it.
     Last,
@@ -36,6 +39,7 @@ pub struct Takes {
     pub settings: bool,
     pub order: bool,
     pub images: bool,
+    pub svg: bool,
 }
 
 // A text that says nothing else asks for help.
@@ -73,6 +77,9 @@ pub fn command_named(word: &[u8]) -> Command {
     }
     if same(word, b"image") {
         return Command::Image;
+    }
+    if same(word, b"curve") {
+        return Command::Curve;
     }
     Command::Unknown
 }
@@ -115,6 +122,9 @@ pub fn flag_named(word: &[u8]) -> Flag {
     if same(word, b"--save") {
         return Flag::Save;
     }
+    if same(word, b"--svg") {
+        return Flag::Svg;
+    }
     if is_help(word) {
         return Flag::Help;
     }
@@ -132,6 +142,7 @@ fn input_alone(settings: bool, images: bool) -> Takes {
         settings: settings,
         order: false,
         images: images,
+        svg: false,
     }
 }
 
@@ -142,7 +153,15 @@ fn input_and_output(settings: bool, order: bool) -> Takes {
         settings: settings,
         order: order,
         images: false,
+        svg: false,
     }
+}
+
+// A trace that may be drawn.
+fn input_drawn() -> Takes {
+    let mut takes = input_alone(false, false);
+    takes.svg = true;
+    takes
 }
 
 pub fn taken_by(command: Command) -> Takes {
@@ -157,6 +176,7 @@ pub fn taken_by(command: Command) -> Takes {
         Command::Rows => input_alone(true, true),
         Command::Quote => input_alone(true, false),
         Command::Image => input_alone(false, false),
+        Command::Curve => input_drawn(),
         Command::Unknown => input_alone(false, false),
     }
 }

@@ -4,10 +4,12 @@ use native.Mathlib.Omega.{arith}
 use denote.Ref.{now}
 use lib.Dec.{eqb}
 use Rattle.search.specs.Search.{leastBelow, never}
+use Rattle.search.specs.ForCode.{past}
+use Rattle.search.proofs.Past.{past-none, past-few, past-more, past-found, past-nothing}
 use Rattle.pool.specs.declared.Frame.{Frame}
 use Rattle.table.specs.Table.{framesIn}
 use Rattle.reference.specs.Search.{has}
-use Rattle.reference.proofs.Finding.{past, past-none, past-few, past-more, past-found, past-nothing, tells, one-holds, among-all}
+use Rattle.reference.proofs.Finding.{tells, one-holds, among-all}
 use borrow.Author.Needs.{needs}
 use Rattle.reference.proofs.look_through.Statement.{statement}
 use Rattle.reference.proofs.look_through.Tie as tie

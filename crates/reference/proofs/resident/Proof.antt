@@ -4,12 +4,12 @@ use native.Mathlib.Omega.{arith}
 use denote.Ref.{now}
 use lib.Dec.{eqb}
 use Rattle.search.specs.declared.Found.{Found}
-use Rattle.search.specs.Search.{leastBelow, never}
+use Rattle.search.specs.Search.{isFound, leastBelow, never}
+use Rattle.search.proofs.Past.{seen-none, seen-more}
 use Rattle.pool.specs.declared.Frame.{Frame}
 use Rattle.table.specs.Table.{framesIn}
 use Rattle.reference.specs.Search.{has}
-use Rattle.reference.specs.ForCode.{isFound}
-use Rattle.reference.proofs.Finding.{seen-none, seen-more, tells, among-all}
+use Rattle.reference.proofs.Finding.{tells, among-all}
 use borrow.Author.Needs.{needs}
 use Rattle.reference.proofs.resident.Statement.{statement}
 use Rattle.reference.proofs.resident.Tie as tie

@@ -1,6 +1,6 @@
 use borrow.Author.Needs.{needs}
-use Rattle.reference.proofs.one_past.Statement.{statement}
-use Rattle.reference.proofs.one_past.Tie as tie
+use Rattle.search.proofs.one_past.Statement.{statement}
+use Rattle.search.proofs.one_past.Tie as tie
 
 returns : tie.Need-returns
 returns c = (rw (c .if1 .taken), search needs)

@@ -1,0 +1,3 @@
+pub mod Stack
+pub mod Places
+pub mod Renaming

@@ -1,0 +1,3 @@
+pub mod Distance
+pub mod Recent
+pub mod ForCode

@@ -1,0 +1,5 @@
+pub mod Falling
+pub mod Moved
+pub mod Step
+pub mod Recency
+pub mod Curve
