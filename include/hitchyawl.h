@@ -1,5 +1,5 @@
 /* Hitchyawl for a C transport: check a trace of edition 1, put it into the other byte order, replay it
- * to counts, and find its misses at every pool size.
+ * to counts, and find LRU's misses at every pool size.
  *
  * The calls are exported by the archive of the crate `host`; "For C" in the README says how to build
  * and link it. It needs memcpy, memmove and memset. The calls keep no state, allocate nothing, and may

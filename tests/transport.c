@@ -274,8 +274,8 @@ static void expect_same_counts(struct buffer trace, struct buffer there)
     expect_counts(there, order == HIGH_FIRST ? LOW_FIRST : HIGH_FIRST, counts, 0, 0);
 }
 
-/* The bytes are accepted, converting them twice gives them again, and neither their counts nor their curve depend on the
- * order. */
+/* The bytes are accepted, converting them twice gives them again, and neither their counts nor their curve depend on
+ * the order. */
 static void expect_there_and_back(struct buffer trace)
 {
     struct buffer there = untouched_buffer(trace.length, 0);

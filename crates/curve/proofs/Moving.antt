@@ -1,6 +1,6 @@
 -- A page that comes to the front of the room: the others go down place by place, and the first of the room are the stack again.
 use mathlib.Core.Path.{_≡_, refl, ap, sym, _∙_}
-use mathlib.Core.Bool.{true, false}
+use mathlib.Core.Bool.{true}
 use mathlib.Core.List.{List, [], _∷_, _++_}
 use Prim.Native.Nat.{ℕ, zero, suc, _+_, _-_, _≤_, _<_, min}
 use native.Mathlib.Omega.{arith}
@@ -12,7 +12,7 @@ use borrow.Author.Tests.{ne-eqb, eqb-true, eqb-false}
 use Rattle.search.specs.declared.Found.{Found}
 use Rattle.search.specs.declared.Found.the-variants.{At, Nothing}
 use Rattle.search.specs.ForCode.{past}
-use Rattle.distance.specs.Recent.{without, touched}
+use Rattle.distance.specs.Recent.{touched}
 use Rattle.distance.specs.ForCode.{placeIn}
 use Rattle.distance.proofs.Stack.{by-test, without-absent}
 use Rattle.distance.proofs.Places.{once-apart, place-nowhere, place-without}

@@ -1,12 +1,11 @@
 -- By LRU from a fresh pool, a pool of f frames holds the f most recently used pages after every record.
 use mathlib.Core.Path.{_≡_, refl, ap, sym, subst, _∙_}
-use mathlib.Core.Bool.{Bool, true, false, not, true≢false}
+use mathlib.Core.Bool.{true, false, not, true≢false}
 use mathlib.Core.List.{List, []}
 use Prim.Native.Nat.{ℕ, zero, suc, _+_, _≤_, _<_}
 use native.Mathlib.Omega.{arith}
 use lib.ListN.{length, getD, take, length-take, getD-replicate, length-replicate}
 use lib.Seq.{take-nil}
-use lib.Dec.{ltb}
 use borrow.Author.Tests.{le-ltb}
 use Rattle.search.specs.declared.Found.{Found}
 use Rattle.search.specs.declared.Found.the-variants.{At, Nothing}
@@ -25,7 +24,7 @@ use Rattle.tally.specs.declared.Tally.{Tally}
 use Rattle.tally.specs.Tally.{countedBy}
 use Rattle.tally.proofs.Laws.{within-own}
 use Rattle.effect.specs.Record.{Did}
-use Rattle.replay.specs.Replay.{Played, after, replayTo}
+use Rattle.replay.specs.Replay.{Played, replayTo}
 use Rattle.replay.proofs.Laws.{doing, replay-none, replay-suc}
 use Rattle.replay.proofs.Going.{going}
 use Rattle.distance.specs.Distance.{distanceAt, within, missesTo}
@@ -35,7 +34,7 @@ use Rattle.distance.proofs.Places.{distance-among}
 use Rattle.recency.specs.Ordered.{InUse, lastIn, Ordered}
 use Rattle.recency.specs.Recency.{Lru, Plain, holds, poolAfter, Recency, RecencyLaw}
 use Rattle.recency.proofs.Falling.{falling-none}
-use Rattle.recency.proofs.Step.{NonePinned, as-many, found-listed, absent-unlisted, Went, record-went}
+use Rattle.recency.proofs.Step.{NonePinned, found-listed, absent-unlisted, Went, record-went}
 
 -- a fresh pool has no frame in use
 empty-frame : (s : Settings) (i : ℕ) → i < 128 → frameAt (freshPool s .frames) i ≡ emptyFrame
@@ -147,8 +146,6 @@ module _ (s : Settings) (t : Tally) (trace : Trace) (lru : Lru s) (plain : Plain
   law = record {
     ordered = λ n l. along n l .ordered;
     held = λ n l page. listed (poolAfter s t trace n) (stack n) (along n l .ordered) (kept n .sound) page;
-    in-use = λ n l i h. along n l .ordered .first i h
-        ∙ ap (ltb i) (as-many (poolAfter s t trace n) (stack n) (along n l .ordered) ∙ length-take (s .frames) (recent (trace .pages) n));
     accepted = λ n l. along n l .k;
     hits = λ n l. went n l .hits ∙ sym (distance-among (trace .pages) (s .frames) n);
     misses = λ n l. went n l .misses ∙ ap not (sym (distance-among (trace .pages) (s .frames) n));

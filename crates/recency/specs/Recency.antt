@@ -1,22 +1,21 @@
 -- Under LRU a pool of f frames holds exactly the f most recently used different pages, by last step.
-use Prim.Native.Nat.{ℕ, _+_, _≤_, _<_, min}
+use Prim.Native.Nat.{ℕ, _+_, _≤_, _<_}
 use mathlib.Core.Path.{_≡_}
 use mathlib.Core.Bool.{Bool, true, not}
 use lib.ListN.{length, getD, take}
-use lib.Dec.{ltb}
 use Rattle.limit.specs.Limits.{referenceLimit}
 use Rattle.search.specs.Search.{isFound, among}
 use Rattle.settings.specs.declared.Settings.{Settings}
 use Rattle.settings.specs.Settings.{inRange}
 use Rattle.trace.specs.Layout.{Trace, recordIn}
 use Rattle.pool.specs.declared.Pool.{Pool}
-use Rattle.pool.specs.Pool.{frameRoom, frameAt, freshPool}
+use Rattle.pool.specs.Pool.{freshPool}
 use Rattle.reference.specs.Search.{findPage}
 use Rattle.tally.specs.declared.Row.{Row}
 use Rattle.tally.specs.declared.Tally.{Tally}
 use Rattle.tally.specs.Rows.{isHit, isMiss}
 use Rattle.effect.specs.Record.{recordOf}
-use Rattle.replay.specs.Replay.{replayTo, replayOf}
+use Rattle.replay.specs.Replay.{replayTo}
 use Rattle.distance.specs.Distance.{distanceAt, within, missesTo}
 use Rattle.distance.specs.Recent.{recent}
 use Rattle.recency.specs.Ordered.{Ordered}
@@ -50,9 +49,6 @@ module _ (s : Settings) (t : Tally) (trace : Trace) where
     pub ordered : (n : ℕ) → n ≤ length (trace .pages) → Ordered (poolAfter n) (take (s .frames) (recent (trace .pages) n))
     -- a page is in the pool exactly where it is one of them
     pub held : (n : ℕ) → n ≤ length (trace .pages) → (page : ℕ) → holds (poolAfter n) page ≡ among (take (s .frames) (recent (trace .pages) n)) page
-    -- as many frames are in use
-    pub in-use : (n : ℕ) → n ≤ length (trace .pages) → (i : ℕ) → i < frameRoom
-        → frameAt (poolAfter n .frames) i .used ≡ ltb i (min (s .frames) (length (recent (trace .pages) n)))
     -- no record was refused
     pub accepted : (n : ℕ) → n ≤ length (trace .pages) → poolAfter n .k ≡ n
     -- the next record is a hit exactly where fewer than f distinct pages lie between it and the use of its page before it

@@ -5,6 +5,7 @@ ghost use lib.Dec.{leb};
 ghost use lib.ListN.{getD};
 ghost use Rattle.scale.specs.Scale.{steps, stepOf, ticksOf, topOf, xOf, yOf, missesWith};
 
+// The steps that lines may have.
 const STEPS: [u64; 27] = [
     1,
     2,

@@ -5,7 +5,7 @@ use Prim.Native.Nat.{ℕ, _+_, _-_, _≤_, _<_}
 use native.Mathlib.Omega.{arith}
 use Rattle.search.specs.declared.Found.{Found}
 use Rattle.search.specs.declared.Found.the-variants.{At, Nothing}
-use Rattle.search.specs.Search.{onFound, isFound, leastBelow, never}
+use Rattle.search.specs.Search.{isFound, leastBelow, never}
 use Rattle.search.specs.ForCode.{onePast, past}
 use Rattle.search.proofs.Least.{least-zero, least-skip, least-first, least-keep, least-sound}
 

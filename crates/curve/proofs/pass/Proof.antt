@@ -1,7 +1,7 @@
 use Prim.Native.Nat.{ℕ, _-_, _≤_}
 use mathlib.Core.Path.{_≡_, ap, sym, _∙_}
 use native.Mathlib.Omega.{arith}
-use lib.ListN.{length, getD, length-set, length-replicate}
+use lib.ListN.{length, length-set, length-replicate}
 use Rattle.trace.specs.declared.Record.{Record}
 use Rattle.trace.specs.Check.{traceOf}
 use Rattle.trace.proofs.Accept.{accepted-few, counts-are}

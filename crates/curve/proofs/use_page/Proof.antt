@@ -1,4 +1,3 @@
-use native.Mathlib.Omega.{arith}
 use Rattle.curve.proofs.Moving.{left-few, used}
 use borrow.Author.Needs.{needs}
 use Rattle.curve.proofs.use_page.Statement.{statement}
