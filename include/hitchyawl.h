@@ -77,9 +77,10 @@ uint32_t hitchyawl_counts(const uint8_t *bytes, size_t length, uint8_t *out, siz
  * trace names.
  *
  * Returns 0 with 128 numbers in the first 512 bytes of `out`, 4 bytes each and in the trace's own byte
- * order: the misses with 1 frame, with 2, .. with 128; the bytes beyond them keep their contents. Else
- * returns the first of the refusals 1 to 8 that fits, then 17 where a record is a pin or an unpin, then
- * 13 where `room`, the length of `out`, is less than 512; a refused call stores nothing. */
+ * order: the misses with 1 frame, with 2, .. with 128, none of them above the one before it; the bytes
+ * beyond them keep their contents. Else returns the first of the refusals 1 to 8 that fits, then 17
+ * where a record is a pin or an unpin, then 13 where `room`, the length of `out`, is less than 512; a
+ * refused call stores nothing. */
 uint32_t hitchyawl_curve(const uint8_t *bytes, size_t length, uint8_t *out, size_t room);
 
 #ifdef __cplusplus

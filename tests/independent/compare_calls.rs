@@ -7,6 +7,7 @@ use crate::image::{self, Held};
 use crate::renaming::{rename_answer, some_renamed_call, Changed};
 use crate::replay::Order;
 use crate::seen_calls::Seen;
+use crate::things::expect_none;
 use crate::traces::Random;
 use crate::{first_difference, run_on};
 use std::error::Error;
@@ -176,8 +177,5 @@ pub fn compare(program: &str, first: u64, count: u64) -> Result<(), Box<dyn Erro
         compare_batch(program, seed, &mut seen).map_err(|error| format!("seed {seed}, {error}"))?;
     }
     println!("{}", seen.line(count));
-    match seen.missing() {
-        missing if missing.is_empty() => Ok(()),
-        missing => Err(format!("never occurred: {}", missing.join(", ")).into()),
-    }
+    expect_none(seen.missing())
 }

@@ -8,9 +8,10 @@ use crate::picture::{picture, Axis};
 use crate::program::{encoded, order_of, other_order, rule_name, RULES};
 use crate::renaming::{some_renamed_trace, Renaming};
 use crate::replay::{check, Order, Rule, Settings, Trace, HEADER, RECORD};
+use crate::things::{expect_none, Things};
 use crate::traces::{Random, PIN, UNPIN};
 use crate::{expect_alike, list_trace, output_of};
-use std::collections::{BTreeMap, BTreeSet};
+use std::collections::BTreeSet;
 use std::error::Error;
 
 // ------------------------------------------------------- our own side first
@@ -108,7 +109,7 @@ fn compare_others(
     if check(&other).as_ref() != Ok(trace) || other == bytes {
         return Err("another trace in the other order".into());
     }
-    seen.note("in the other order");
+    seen.things.note("in the other order");
     compare_told(program, "in the other order", &other, ours)
 }
 
@@ -137,10 +138,7 @@ pub fn compare(program: &str, first: u64, count: u64) -> Result<(), Box<dyn Erro
         compare_one(program, seed, &mut seen).map_err(told)?;
     }
     println!("{}", seen.line(count));
-    match seen.missing() {
-        missing if missing.is_empty() => Ok(()),
-        missing => Err(format!("never occurred: {}", missing.join(", ")).into()),
-    }
+    expect_none(seen.missing())
 }
 
 // -------------------------------------------------------------- what came up
@@ -149,7 +147,7 @@ pub fn compare(program: &str, first: u64, count: u64) -> Result<(), Box<dyn Erro
 #[derive(Default)]
 struct Seen {
     records: u64,
-    things: BTreeMap<String, u64>,
+    things: Things,
 }
 
 const REFUSALS: [u32; 9] = [1, 2, 3, 4, 5, 6, 7, 8, 17];
@@ -175,7 +173,8 @@ const OTHERS: [&str; 5] = [
     "in the other order",
 ];
 
-fn accepted(rule: Rule, order: Order) -> String {
+/// The name of an accepted trace by this rule in this order.
+pub fn accepted(rule: Rule, order: Order) -> String {
     format!("{} {order:?}", rule_name(rule))
 }
 
@@ -197,7 +196,7 @@ fn needed() -> Vec<String> {
 
 /// How many different pages lie between the uses of a page and its use before.
 fn distances(trace: &Trace) -> BTreeSet<u32> {
-    let pages: Vec<u32> = trace.records.iter().map(|(page, _)| *page).collect();
+    let pages = trace.pages();
     let between = |at: usize| {
         let before = pages[..at].iter().rposition(|page| *page == pages[at])?;
         let others: BTreeSet<&u32> = pages[before + 1..at].iter().collect();
@@ -214,16 +213,12 @@ fn has_pins(bytes: &[u8]) -> bool {
 }
 
 impl Seen {
-    fn note(&mut self, thing: impl Into<String>) {
-        *self.things.entry(thing.into()).or_default() += 1;
-    }
-
     fn note_made(&mut self, made: &Made, curve: &Result<Curve, u32>) {
-        self.note(format!("{:?}", made.sort));
+        self.things.note(format!("{:?}", made.sort));
         if let Err(refusal) = curve {
-            self.note(format!("refusal {refusal}"));
+            self.things.note(format!("refusal {refusal}"));
             if WITH_PINS.contains(refusal) && has_pins(&made.bytes) {
-                self.note(format!("refusal {refusal} before a pin"));
+                self.things.note(format!("refusal {refusal} before a pin"));
             }
         }
     }
@@ -232,13 +227,14 @@ impl Seen {
         let Settings { rule, frames, .. } = trace.settings;
         let records = trace.records.len();
         self.records += records as u64;
-        self.note(accepted(rule, order));
-        self.note(format!("step {}", Axis::of(curve[0]).step));
-        self.note(format!("records {records}"));
+        self.things.note(accepted(rule, order));
+        self.things
+            .note(format!("step {}", Axis::of(curve[0]).step));
+        self.things.note(format!("records {records}"));
         // Long traces have all distances, and finding them takes long.
         if records < 1_000 {
             for between in distances(trace) {
-                self.note(format!("distance {between}"));
+                self.things.note(format!("distance {between}"));
             }
         }
         let has = |page: u32| trace.records.iter().any(|record| record.0 == page);
@@ -253,53 +249,38 @@ impl Seen {
             curve[0] == curve[127] && records > 0,
         ];
         for (thing, occurred) in FEATURES.into_iter().zip(occurred) {
-            if occurred {
-                self.note(thing);
-            }
+            self.things.note_if(occurred, thing);
         }
     }
 
     fn note_renamed(&mut self, renaming: &Renaming) {
-        self.note("renamed");
+        self.things.note("renamed");
         for (page, number) in renaming.0.iter().filter(|(page, number)| page != number) {
-            self.note("page with another number");
+            self.things.note("page with another number");
             if *page == 0 {
-                self.note("page that was 0");
+                self.things.note("page that was 0");
             }
             if *number == 0 {
-                self.note("page that became 0");
+                self.things.note("page that became 0");
             }
         }
     }
 
-    fn times(&self, thing: &str) -> u64 {
-        self.things.get(thing).copied().unwrap_or(0)
-    }
-
     /// What should have come up and never did.
     fn missing(&self) -> Vec<String> {
-        let never = |thing: &String| self.times(thing) == 0;
-        needed().into_iter().filter(never).collect()
+        self.things.missing(needed())
     }
 
     fn line(&self, count: u64) -> String {
-        let by_number = |what: &str, numbers: &[u32]| {
-            let times = numbers
-                .iter()
-                .map(|number| format!("{number}:{}", self.times(&format!("{what} {number}"))));
-            times.collect::<Vec<_>>().join(" ")
-        };
-        let features = FEATURES.map(|thing| format!("{thing} {}", self.times(thing)));
-        let others = OTHERS.map(|thing| format!("{thing} {}", self.times(thing)));
         format!(
             "compared the curves and pictures of {count} traces alike, {} records; refusals {}; \
              different pages between two uses {}; steps of the axis {}; {}; {}",
             self.records,
-            by_number("refusal", &REFUSALS),
-            by_number("distance", &DISTANCES),
-            by_number("step", &STEPS),
-            features.join(", "),
-            others.join(", "),
+            self.things.by_number("refusal", &REFUSALS),
+            self.things.by_number("distance", &DISTANCES),
+            self.things.by_number("step", &STEPS),
+            self.things.by_name(&FEATURES),
+            self.things.by_name(&OTHERS),
         )
     }
 }

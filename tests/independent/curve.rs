@@ -2,7 +2,7 @@
 //! found as it is defined, by a replay from a fresh pool at each size, and not by how
 //! far two uses of a page are apart: that is how the one it is held against finds it.
 
-use crate::replay::{check, tally_of, Kind, Rule, Settings, Trace};
+use crate::replay::{check, tally_of, Kind, Rule, Trace};
 
 /// The sizes of a pool: 1 frame, 2 frames, and so on.
 pub const SIZES: usize = 128;
@@ -39,20 +39,17 @@ fn pins(kind: Kind) -> bool {
 
 /// Whatever rule and frames the trace names; its other settings are kept.
 fn misses(trace: &Trace, frames: u32) -> u32 {
-    let settings = Settings {
-        rule: Rule::Lru,
-        frames,
-        ..trace.settings
-    };
-    tally_of(settings, &trace.records).misses
+    tally_of(trace.settings.with(Rule::Lru, frames), &trace.records).misses
 }
 
-/// A line for each size: the frames and the misses.
+/// Told of every curve, since no number of it is above the one before.
+const LAST_LINE: &str = "never rises\n";
+
+/// A line for each size, the frames and the misses, and the last one.
 pub fn lines(curve: &Curve) -> String {
-    let sizes = (1..).zip(curve);
-    sizes
-        .map(|(frames, misses): (u32, &u32)| format!("{frames} {misses}\n"))
-        .collect()
+    let line = |(frames, misses): (u32, &u32)| format!("{frames} {misses}\n");
+    let sizes = (1..).zip(curve).map(line);
+    sizes.chain([LAST_LINE.to_string()]).collect()
 }
 
 /// The lines of the trace in these bytes, or the one by which it is refused.

@@ -110,8 +110,12 @@ fn refusals_in_their_order() {
 #[test]
 fn curves_as_lines() {
     let text = told(&example());
-    assert!(text.starts_with("1 5\n2 4\n3 3\n4 3\n") && text.ends_with("\n127 3\n128 3\n"));
-    assert_eq!((text.lines().count(), &text), (128, &lines_of(&[5, 4, 3])));
+    assert!(text.starts_with("1 5\n2 4\n3 3\n4 3\n"));
+    assert!(text.ends_with("\n127 3\n128 3\nnever rises\n"));
+    assert_eq!((text.lines().count(), &text), (129, &lines_of(&[5, 4, 3])));
+    // Of no records, too.
+    let empty = encode(&settings(Rule::Clock, 3), Order::HighFirst, &[]);
+    assert!(told(&empty).ends_with("\n128 0\nnever rises\n"));
     assert_eq!(told(b""), "trace refused 1\n");
     let pinned = encode(&settings(Rule::Lru, 1), Order::LowFirst, &[(7, P)]);
     assert_eq!(told(&pinned), "trace refused 17\n");
@@ -275,9 +279,6 @@ fn traces_are_of_their_sorts() {
     for seed in 0..2 * turn {
         let made = made(seed);
         let trace = check(&made.bytes);
-        let pages = |trace: &crate::replay::Trace| -> Vec<u32> {
-            trace.records.iter().map(|record| record.0).collect()
-        };
         let different = |pages: &[u32]| pages.iter().collect::<BTreeSet<_>>().len();
         match made.sort {
             Sort::Damaged(refusal) | Sort::PinnedAndDamaged(refusal) => {
@@ -287,7 +288,7 @@ fn traces_are_of_their_sorts() {
                 assert_eq!(of_trace(&trace.unwrap(), SIZES), Err(17), "{seed}");
             }
             sort => {
-                let pages = pages(&trace.unwrap());
+                let pages = trace.unwrap().pages();
                 let holds = match sort {
                     Sort::Empty => pages.is_empty(),
                     Sort::OneRecord => pages.len() == 1,

@@ -17,6 +17,7 @@ pub enum Sort {
     Empty,
     OneRecord,
     OnePage,
+    FewPages,
     AllDifferent,
     /// Nearly all or some of the pages are the least and the greatest there are.
     EndsOfPages,
@@ -24,6 +25,8 @@ pub enum Sort {
     Skewed,
     /// Stretches of any pages, scans and bursts.
     Mixed,
+    /// Stretches, each among the pages of one of some sets.
+    Phases,
     /// A page comes again when so many different ones have come since.
     Distance(u32),
     /// Around and around so many pages.
@@ -96,7 +99,8 @@ pub fn made(seed: u64) -> Made {
         // Where a picture names its own size on the other side, and at the ends.
         settings.frames = random.one_of(&[1, 64, 65, 127, 128]);
     }
-    let mut records = records_of(random, sort);
+    let count = some_count(random);
+    let mut records = records_of(random, sort, count);
     if let Pin | Unpin | PinnedAndDamaged(_) = sort {
         put_pins(random, &mut records, sort);
     }
@@ -109,12 +113,16 @@ pub fn made(seed: u64) -> Made {
 
 // ------------------------------------------------------------- the records
 
-fn records_of(random: &mut Random, sort: Sort) -> Vec<Record> {
-    let count = some_count(random);
+/// Records of a sort, so many of them where the sort does not say how many.
+pub fn records_of(random: &mut Random, sort: Sort, count: usize) -> Vec<Record> {
     let pages = match sort {
         Empty => Vec::new(),
         OneRecord => vec![random.edged(0, u32::MAX)],
         OnePage => vec![random.any(); count],
+        FewPages => {
+            let among = random.between(2, 6) as usize;
+            any_of(random, among, count, 1)
+        }
         AllDifferent => different(random, count),
         EndsOfPages => ends_of_pages(random, count),
         Evenly => with_skew(random, count, 1),
@@ -128,6 +136,7 @@ fn records_of(random: &mut Random, sort: Sort) -> Vec<Record> {
             let skew = random.between(1, 4);
             with_skew(random, MOST_RECORDS as usize, skew)
         }
+        Phases => phases(random, count),
         Mixed => return mixed(random, count),
         Pin | Unpin | Damaged(_) | PinnedAndDamaged(_) => return mixed(random, 60),
     };
@@ -163,11 +172,15 @@ fn different(random: &mut Random, count: usize) -> Vec<u32> {
     (0..count as u32).map(page).collect()
 }
 
-/// Any of some pages, the front ones more often with a greater skew: fewer pages than
-/// the greatest pool has frames, about as many, and more.
+/// Any of some pages: fewer than the greatest pool has frames, about as many, and more.
 fn with_skew(random: &mut Random, count: usize, skew: u32) -> Vec<u32> {
     let (low, high) = random.one_of(&[(2, 20), (21, 120), (120, 140), (141, 600), (600, 3_000)]);
     let among = random.between(low, high) as usize;
+    any_of(random, among, count, skew)
+}
+
+/// Any of so many pages, the front ones more often with a greater skew.
+fn any_of(random: &mut Random, among: usize, count: usize, skew: u32) -> Vec<u32> {
     let pages = different(random, among);
     let mut some = || (0..skew).map(|_| random.place(among)).min();
     (0..count).map(|_| pages[some().unwrap_or(0)]).collect()
@@ -182,6 +195,22 @@ fn ends_of_pages(random: &mut Random, count: usize) -> Vec<u32> {
     let pages = (0..count).map(|_| page());
     // Both are there, and both come again.
     pages.chain([0, u32::MAX, 0, u32::MAX]).collect()
+}
+
+fn phases(random: &mut Random, count: usize) -> Vec<u32> {
+    let mut some_set = |_| {
+        let among = random.between(1, 40) as usize;
+        different(random, among)
+    };
+    let sets: Vec<Vec<u32>> = (0..4).map(&mut some_set).collect();
+    let mut pages = Vec::new();
+    while pages.len() < count {
+        let set = &sets[random.place(sets.len())];
+        let length = random.between(1, 3 * set.len() as u32);
+        pages.extend((0..length).map(|_| random.one_of(set)));
+    }
+    pages.truncate(count);
+    pages
 }
 
 /// Some pages, each of which comes again when so many different ones have, some of those

@@ -14,9 +14,8 @@ use crate::traces::{encode, put, PIN, READ, UNPIN, WRITE};
 pub fn lines_of(front: &[u32]) -> String {
     let last = front.last().copied().unwrap_or(0);
     let misses = |frames: usize| front.get(frames - 1).copied().unwrap_or(last);
-    (1..=128)
-        .map(|frames| format!("{frames} {}\n", misses(frames)))
-        .collect()
+    let sizes = (1..=128).map(|frames| format!("{frames} {}\n", misses(frames)));
+    sizes.collect::<String>() + "never rises\n"
 }
 
 /// The polyline of the example: 760 of height for 5 misses, so 608 for 4 and 456 for 3.
@@ -29,9 +28,9 @@ fn points_of_the_example() -> String {
 
 /// The picture of the paper's example, worked by hand but for the points that are alike.
 pub fn picture_of_the_example() -> String {
-    r##"<svg xmlns="http://www.w3.org/2000/svg" width="180mm" height="110mm" viewBox="0 0 1800 1100" font-family="sans-serif" font-size="32">
+    r##"<svg xmlns="http://www.w3.org/2000/svg" width="180mm" height="115mm" viewBox="0 0 1800 1150" font-family="sans-serif" font-size="32">
 <title>LRU misses by pool size</title>
-<rect width="1800" height="1100" fill="white"/>
+<rect width="1800" height="1150" fill="white"/>
 <text x="200" y="64" font-size="48">LRU misses by pool size</text>
 <text x="200" y="112">records 5</text>
 <g fill="none" stroke="#bbb" stroke-width="2">
@@ -60,6 +59,7 @@ pub fn picture_of_the_example() -> String {
 <text x="1532" y="990">112</text>
 <text x="1724" y="990">128</text>
 <text x="962" y="1050">frames</text>
+<text x="962" y="1110">never rises: more frames never cost more misses</text>
 <text transform="translate(50 560) rotate(-90)">misses</text>
 </g>
 <g fill="none" stroke="black" stroke-width="3">
@@ -91,8 +91,67 @@ pub fn fixed() -> Vec<Case> {
         wrong_words(),
         standard_streams(),
         names(),
+        rising(),
     ]
     .concat()
+}
+
+/// Reads of these pages with 3 frames.
+fn reads_of(settings: Settings, order: Order, pages: [u32; 7]) -> Bytes {
+    let records = pages.map(|page| (page, READ));
+    let settings = Settings {
+        frames: 3,
+        ..settings
+    };
+    encode(&settings, order, &records)
+}
+
+/// By generalised clock it has 4 misses with 2 frames and 5 with 3.
+pub fn clock_rises(order: Order) -> Bytes {
+    let settings = Settings {
+        rule: Rule::Clock,
+        cap: 2,
+        ..PLAIN
+    };
+    reads_of(settings, order, [1, 2, 1, 2, 3, 4, 3])
+}
+
+/// By WATT it has 5 misses with 2 frames and 6 with 3.
+pub fn watt_rises(order: Order) -> Bytes {
+    let settings = Settings {
+        rule: Rule::Watt,
+        sample: 16,
+        epoch: 3,
+        ..PLAIN
+    };
+    reads_of(settings, order, [1, 2, 3, 1, 4, 2, 4])
+}
+
+/// A quote that begins so; four different pages are fetched once each where all have room.
+fn quote_of(below_four: &str) -> String {
+    let names = "frames lru-misses lru-written clock-misses clock-written watt-misses watt-written";
+    let with_room = [4, 8, 16, 32, 64, 128].map(|frames| format!("{frames} 4 0 4 0 4 0\n"));
+    format!("{names}\n{below_four}{}", with_room.concat())
+}
+
+/// By the other rules a frame more may cost a miss more, and a quote shows it. The curve
+/// is LRU's all the same, and never rises.
+fn rising() -> Vec<Case> {
+    let mut cases = Vec::new();
+    for order in [Order::HighFirst, Order::LowFirst] {
+        let clock = quote_of("1 7 0 7 0 7 0\n2 4 0 4 0 4 0\n3 4 0 5 0 4 0\n");
+        let watt = quote_of("1 7 0 7 0 7 0\n2 6 0 6 0 5 0\n3 5 0 4 0 6 0\n");
+        for (bytes, quote, misses) in [
+            (clock_rises(order), clock, &[7, 4][..]),
+            (watt_rises(order), watt, &[7, 6, 5, 4]),
+        ] {
+            cases.extend([
+                Case::of("quote a").file("a", &bytes).gives(quote),
+                Case::of("curve a").file("a", bytes).gives(lines_of(misses)),
+            ]);
+        }
+    }
+    cases
 }
 
 /// The words with and without `--svg`.

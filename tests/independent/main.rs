@@ -2,14 +2,16 @@
 //! against another one. It lists traces and series, makes them from seeds,
 //! and compares its listings and sheets with those of given programs, then once
 //! more with the pages renamed. It does the same with calls on pool images, and with
-//! curves. It also runs the program `hitchyawl` as its users do, and holds all that
-//! comes of it against what must come.
+//! curves, and sees that an LRU pool with a frame more holds what one without it does.
+//! It also runs the program `hitchyawl` as its users do, and holds all that comes of it
+//! against what must come.
 
 mod batches;
 mod calls;
 mod cases;
 mod compare_calls;
 mod compare_curves;
+mod compare_inclusion;
 mod curve;
 #[cfg(test)]
 mod curve_tests;
@@ -22,6 +24,10 @@ mod fixed_images;
 mod image;
 #[cfg(test)]
 mod image_tests;
+mod inclusion;
+#[cfg(test)]
+mod inclusion_tests;
+mod inclusion_traces;
 mod picture;
 mod pools;
 mod program;
@@ -36,6 +42,7 @@ mod session;
 mod stored_calls;
 #[cfg(test)]
 mod tests;
+mod things;
 mod traces;
 
 use renaming::{rename_listing, some_renamed_series, some_renamed_trace, Changed, Renaming};
@@ -45,6 +52,7 @@ use std::error::Error;
 use std::fmt;
 use std::io::{self, Read, Write};
 use std::process::{Command, ExitCode, Output, Stdio};
+use things::expect_none;
 use traces::{Load, Random};
 
 const USAGE: &str = "\
@@ -62,6 +70,7 @@ usage: listing < TRACE
        compare HITCHYAWL-PROGRAM BENCH-PROGRAM SERIES-PROGRAM FIRST COUNT SERIESCOUNT
        comparecalls CALLS-PROGRAM FIRST COUNT
        comparecurves HITCHYAWL-PROGRAM FIRST COUNT
+       compareinclusion HITCHYAWL-PROGRAM FIRST COUNT
        session HITCHYAWL FOLDER FIRST COUNT
        pace < IMAGE";
 
@@ -147,6 +156,10 @@ fn run(arguments: &[&str]) -> Result<(), Box<dyn Error>> {
         ["comparecurves", program, first, count] => {
             drop(stdout);
             compare_curves::compare(program, first.parse()?, count.parse()?)?;
+        }
+        ["compareinclusion", program, first, count] => {
+            drop(stdout);
+            compare_inclusion::compare(program, first.parse()?, count.parse()?)?;
         }
         ["session", hitchyawl, folder, first, count] => {
             drop(stdout);
@@ -566,9 +579,5 @@ fn compare(
             .map_err(|error| format!("seed {seed}, {error}"))?;
     }
     println!("{}", coverage.line(count, series_count));
-    let missing = coverage.missing();
-    if missing.is_empty() {
-        return Ok(());
-    }
-    Err(format!("never occurred: {}", missing.join(", ")).into())
+    expect_none(coverage.missing())
 }

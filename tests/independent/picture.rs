@@ -72,11 +72,11 @@ pub fn told(bytes: &[u8]) -> String {
 
 fn heading(records: usize) -> Vec<String> {
     vec![
-        "<svg xmlns=\"http://www.w3.org/2000/svg\" width=\"180mm\" height=\"110mm\" \
-         viewBox=\"0 0 1800 1100\" font-family=\"sans-serif\" font-size=\"32\">"
+        "<svg xmlns=\"http://www.w3.org/2000/svg\" width=\"180mm\" height=\"115mm\" \
+         viewBox=\"0 0 1800 1150\" font-family=\"sans-serif\" font-size=\"32\">"
             .to_string(),
         "<title>LRU misses by pool size</title>".to_string(),
-        "<rect width=\"1800\" height=\"1100\" fill=\"white\"/>".to_string(),
+        "<rect width=\"1800\" height=\"1150\" fill=\"white\"/>".to_string(),
         "<text x=\"200\" y=\"64\" font-size=\"48\">LRU misses by pool size</text>".to_string(),
         format!("<text x=\"200\" y=\"112\">records {records}</text>"),
     ]
@@ -110,8 +110,12 @@ fn misses_named(axis: Axis) -> Vec<String> {
 fn frames_named() -> Vec<String> {
     let line = |frames| format!("<text x=\"{}\" y=\"990\">{frames}</text>", x(frames));
     let mut lines: Vec<String> = [1].into_iter().chain(marked_sizes()).map(line).collect();
-    lines.push("<text x=\"962\" y=\"1050\">frames</text>".to_string());
-    lines.push("<text transform=\"translate(50 560) rotate(-90)\">misses</text>".to_string());
+    let words = [
+        "<text x=\"962\" y=\"1050\">frames</text>",
+        "<text x=\"962\" y=\"1110\">never rises: more frames never cost more misses</text>",
+        "<text transform=\"translate(50 560) rotate(-90)\">misses</text>",
+    ];
+    lines.extend(words.map(String::from));
     group("text-anchor=\"middle\"", lines)
 }
 

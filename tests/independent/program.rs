@@ -640,14 +640,7 @@ fn quoted(settings: Settings, records: &[(u32, Kind)]) -> String {
     for frames in quoted_frames(settings.frames) {
         text += &frames.to_string();
         for rule in RULES {
-            let tally = tally_of(
-                Settings {
-                    rule,
-                    frames,
-                    ..settings
-                },
-                records,
-            );
+            let tally = tally_of(settings.with(rule, frames), records);
             text += &format!(" {} {}", tally.misses, tally.written);
         }
         text.push('\n');

@@ -381,7 +381,7 @@ impl Renamer<'_> {
 }
 
 /// The numbers of a line, exactly so many.
-fn numbers<const N: usize>(line: &str) -> Option<[u32; N]> {
+pub fn numbers<const N: usize>(line: &str) -> Option<[u32; N]> {
     any_numbers(line)?.try_into().ok()
 }
 

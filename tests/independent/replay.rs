@@ -51,6 +51,17 @@ pub struct Settings {
     pub seed: u32,
 }
 
+impl Settings {
+    /// The others with this rule and these frames.
+    pub fn with(self, rule: Rule, frames: u32) -> Settings {
+        Settings {
+            rule,
+            frames,
+            ..self
+        }
+    }
+}
+
 #[derive(Clone, Copy, PartialEq, Eq, Debug)]
 pub enum Kind {
     Read,
@@ -64,6 +75,12 @@ pub enum Kind {
 pub struct Trace {
     pub settings: Settings,
     pub records: Vec<(u32, Kind)>,
+}
+
+impl Trace {
+    pub fn pages(&self) -> Vec<u32> {
+        self.records.iter().map(|(page, _)| *page).collect()
+    }
 }
 
 /// The trace in these bytes, or the first of the refusals 1 to 8.

@@ -6,14 +6,15 @@ use crate::image::{self, Clause, Held, HeldFrame};
 use crate::rare::{rare, RARE};
 use crate::renaming::Changed;
 use crate::replay::{check, row, Kind, Order, Pool, Rule, Trace, MOST_REFERENCES};
-use std::collections::{BTreeMap, BTreeSet};
+use crate::things::Things;
+use std::collections::BTreeSet;
 
 /// How often each thing came up, and which images were replayed from.
 #[derive(Default)]
 pub struct Seen {
     calls: u64,
     pub renamed: u64,
-    things: BTreeMap<String, u64>,
+    things: Things,
     sound_images: BTreeSet<Vec<u8>>,
     other_images: BTreeSet<Vec<u8>>,
     pub changed: Changed,
@@ -166,24 +167,15 @@ fn needed() -> Vec<String> {
 }
 
 impl Seen {
-    fn note(&mut self, thing: impl Into<String>) {
-        *self.things.entry(thing.into()).or_default() += 1;
-    }
-
-    fn note_if(&mut self, occurred: bool, thing: &str) {
-        if occurred {
-            self.note(thing);
-        }
-    }
-
     /// What a call and its answer bring up.
     pub fn note_call(&mut self, trial: &Trial, answer: &Answer) {
         let Trial { call, sort } = trial;
         self.calls += 1;
-        self.note(sort.clone());
-        self.note(format!("{} {}", answer.name, answer.refusal));
+        self.things.note(sort.clone());
+        self.things
+            .note(format!("{} {}", answer.name, answer.refusal));
         if sort.starts_with("field ") && call.what == What::Read {
-            self.note(format!("{sort} gives {}", answer.refusal));
+            self.things.note(format!("{sort} gives {}", answer.refusal));
         }
         let Ok(held) = image::held(&call.image) else {
             return;
@@ -191,7 +183,7 @@ impl Seen {
         let broken = held.broken();
         if let (true, 1, Some(&clause)) = (sort.starts_with("field "), broken.len(), broken.first())
         {
-            self.note(broken_alone(clause));
+            self.things.note(broken_alone(clause));
         }
         match held.pool() {
             Some(pool) => self.note_on_sound(call, answer, &pool),
@@ -216,12 +208,15 @@ impl Seen {
         match call.what {
             What::Write => {
                 let short = (call.room as usize) < call.image.len();
-                self.note_if(short, UNSOUND_BEFORE_ROOM);
+                self.things.note_if(short, UNSOUND_BEFORE_ROOM);
             }
-            What::Step => self.note_if(kind_of(call.kind).is_none(), UNSOUND_BEFORE_KIND),
+            What::Step => self
+                .things
+                .note_if(kind_of(call.kind).is_none(), UNSOUND_BEFORE_KIND),
             What::Replay => {
                 self.other_images.insert(call.image.clone());
-                self.note_if(check(&call.trace).is_err(), UNSOUND_BEFORE_TRACE);
+                self.things
+                    .note_if(check(&call.trace).is_err(), UNSOUND_BEFORE_TRACE);
             }
             What::Read | What::Check | What::Counts => {}
         }
@@ -230,9 +225,12 @@ impl Seen {
     fn note_writing(&mut self, call: &Call, answer: &Answer) {
         let exact = call.image.len() as u32;
         let written = answer.refusal == 0;
-        self.note_if(call.room == exact && written, EXACT_BYTES);
-        self.note_if(call.room + 1 == exact && !written, A_BYTE_LESS);
-        self.note_if(call.room > exact && written, MORE_BYTES);
+        self.things
+            .note_if(call.room == exact && written, EXACT_BYTES);
+        self.things
+            .note_if(call.room + 1 == exact && !written, A_BYTE_LESS);
+        self.things
+            .note_if(call.room > exact && written, MORE_BYTES);
     }
 
     fn note_tally(&mut self, call: &Call, answer: &Answer) {
@@ -240,10 +238,10 @@ impl Seen {
         let alone = excessive.count() == 1 && answer.refusal == 14;
         for (number, &count) in call.tally.iter().enumerate() {
             if count == MOST_COUNT && answer.refusal == 0 {
-                self.note(format!("count {number} at its greatest"));
+                self.things.note(format!("count {number} at its greatest"));
             }
             if count > MOST_COUNT && alone {
-                self.note(format!("count {number} too great alone"));
+                self.things.note(format!("count {number} too great alone"));
             }
         }
     }
@@ -260,14 +258,15 @@ impl Seen {
             any(|frame| frame.pins == 255),
         ];
         for (occurred, feature) in occurred.into_iter().zip(FEATURES) {
-            self.note_if(occurred, feature);
+            self.things.note_if(occurred, feature);
         }
     }
 
     fn note_step(&mut self, call: &Call, answer: &Answer, pool: &Pool) {
         self.note_tally(call, answer);
         let short = call.room < pool.settings.batch;
-        self.note_if(short && answer.refusal == 6, KIND_BEFORE_ROOM);
+        self.things
+            .note_if(short && answer.refusal == 6, KIND_BEFORE_ROOM);
         match kind_of(call.kind) {
             Some(kind) if answer.refusal == 0 => self.note_steps(pool, &[(call.page, kind)]),
             _ => {}
@@ -278,7 +277,7 @@ impl Seen {
         self.note_tally(call, answer);
         let Ok(trace) = check(&call.trace) else {
             let excessive = call.tally.iter().any(|&count| count > MOST_COUNT);
-            self.note_if(excessive, TALLY_BEFORE_TRACE);
+            self.things.note_if(excessive, TALLY_BEFORE_TRACE);
             return;
         };
         match answer.refusal {
@@ -286,7 +285,8 @@ impl Seen {
                 self.sound_images.insert(call.image.clone());
                 let [image, trace_order] =
                     [&call.image, &call.trace].map(|bytes| order_name(bytes));
-                self.note(format!("{image} image and {trace_order} trace"));
+                self.things
+                    .note(format!("{image} image and {trace_order} trace"));
                 self.note_steps(pool, &trace.records);
             }
             15 => self.note_other_settings(pool, &trace),
@@ -301,15 +301,20 @@ impl Seen {
         let (few_rows, few_pages) = (call.rows < rows, call.room < pages);
         match answer.refusal {
             0 => {
-                self.note_if(call.rows == rows && rows > 0, EXACT_ROWS);
-                self.note_if(call.room == pages && pages > 0, EXACT_PAGES);
-                self.note_if(call.rows > rows && call.room > pages, MORE_ROOM);
+                self.things
+                    .note_if(call.rows == rows && rows > 0, EXACT_ROWS);
+                self.things
+                    .note_if(call.room == pages && pages > 0, EXACT_PAGES);
+                self.things
+                    .note_if(call.rows > rows && call.room > pages, MORE_ROOM);
             }
             13 => {
-                self.note_if(few_rows && !few_pages, FEW_ROWS);
-                self.note_if(few_pages && !few_rows, FEW_PAGES);
+                self.things.note_if(few_rows && !few_pages, FEW_ROWS);
+                self.things.note_if(few_pages && !few_rows, FEW_PAGES);
             }
-            15 => self.note_if(few_rows || few_pages, SETTINGS_BEFORE_ROOM),
+            15 => self
+                .things
+                .note_if(few_rows || few_pages, SETTINGS_BEFORE_ROOM),
             _ => {}
         }
     }
@@ -318,7 +323,7 @@ impl Seen {
         let [ours, theirs] = [&pool.settings, &trace.settings].map(image::numbers_of);
         let differ: Vec<usize> = (0..8).filter(|&i| ours[i] != theirs[i]).collect();
         if let [number] = differ[..] {
-            self.note(other_setting(number));
+            self.things.note(other_setting(number));
         }
     }
 
@@ -330,21 +335,16 @@ impl Seen {
             let before = pool.clone();
             let step = pool.step(page, kind);
             let [outcome, ..] = row(&step);
-            self.note(format!("{rule} outcome {outcome}"));
+            self.things.note(format!("{rule} outcome {outcome}"));
             for (thing, occurred) in rare(&before, &pool, kind, &step) {
-                self.note_if(occurred, &format!("step with {thing}"));
+                self.things.note_if(occurred, &format!("step with {thing}"));
             }
         }
     }
 
-    fn times(&self, thing: &str) -> u64 {
-        self.things.get(thing).copied().unwrap_or(0)
-    }
-
     /// What should have come up and never did.
     pub fn missing(&self) -> Vec<String> {
-        let never = |thing: &String| self.times(thing) == 0;
-        let mut missing: Vec<String> = needed().into_iter().filter(never).collect();
+        let mut missing = self.things.missing(needed());
         for (images, least, what) in [
             (&self.sound_images, LEAST_SOUND_IMAGES, "sound"),
             (&self.other_images, LEAST_OTHER_IMAGES, "other"),
@@ -363,17 +363,14 @@ impl Seen {
     }
 
     pub fn line(&self, count: u64) -> String {
-        let refusals = REFUSALS.map(|(name, refusals)| {
-            let times = refusals
-                .iter()
-                .map(|refusal| format!("{refusal}:{}", self.times(&format!("{name} {refusal}"))));
-            format!("{name} {}", times.collect::<Vec<_>>().join(" "))
-        });
+        let refusals = REFUSALS
+            .map(|(name, refusals)| format!("{name} {}", self.things.by_number(name, refusals)));
         let outcomes = OUTCOMES.map(|outcome| {
-            let by_rule = RULES.map(|(_, rule)| self.times(&format!("{rule} outcome {outcome}")));
+            let by_rule =
+                RULES.map(|(_, rule)| self.things.times(&format!("{rule} outcome {outcome}")));
             format!("{outcome}:{}", by_rule.iter().sum::<u64>())
         });
-        let clauses = Clause::ALL.map(|clause| self.times(&broken_alone(clause)));
+        let clauses = Clause::ALL.map(|clause| self.things.times(&broken_alone(clause)));
         let renamed = self
             .changed
             .named()

@@ -3,6 +3,7 @@
 
 use crate::cases::{self, Case, Input, Node, Output};
 use crate::program::{self, Bytes, Command, End, Outside, STANDARD};
+use crate::things::expect_none;
 use crate::{first_difference, fixed};
 use std::collections::BTreeMap;
 use std::error::Error;
@@ -736,8 +737,5 @@ pub fn session(program: &str, folder: &str, first: u64, count: u64) -> Result<()
         return Err(faults.join("\n").into());
     }
     println!("{}", session.seen.line());
-    match session.seen.missing() {
-        missing if missing.is_empty() => Ok(()),
-        missing => Err(format!("never occurred: {}", missing.join(", ")).into()),
-    }
+    expect_none(session.seen.missing())
 }

@@ -16,8 +16,9 @@ use Rattle.trace.specs.Check.{refusalOf, checkOf, traceOf}
 use Rattle.trace.proofs.Accept.{accepted, refused-is, counts-are}
 use Rattle.trace.proofs.Lists.{length-upTo, upTo-at}
 use Rattle.distance.specs.Distance.{missesAt}
+use Rattle.distance.proofs.Fewer.{fewer-misses}
 use Rattle.distance.proofs.Renaming.{Apart, misses-renamed}
-use Rattle.curve.specs.Curve.{curveOf, noPins, curveRefusal, CurveInto}
+use Rattle.curve.specs.Curve.{curveOf, NeverRises, noPins, curveRefusal, CurveInto}
 use Rattle.curve.specs.ForCode.{Times, leavings}
 use Rattle.curve.proofs.Counting.{upTo-cong, curve-is}
 
@@ -102,3 +103,11 @@ curve-place s list list′ c i l =
     let room = granted s 128 (length list) (sym (c .answers)) .2 in
     let stores : list′ ≡ v ++ drop (0 + length v) list = c .list-holds ∙ rw (← c .answers) (sets-eq v list 0 (omega arith)) in
     ap (λ (k : List ℕ). getD k i 0) stores ∙ List·getD-append v (drop (0 + length v) list) 0 i (omega arith) ∙ curve-at (traceOf s .pages) i l
+
+-- and these never rise
+pub never-rises : (s list list′ : List ℕ) → CurveInto s list 0 list′ → NeverRises list′
+never-rises s list list′ c i j l m =
+    let a = curve-place s list list′ c i (omega arith) in
+    let b = curve-place s list list′ c j m in
+    let h = fewer-misses (traceOf s .pages) (suc i) (suc j) (length (traceOf s .pages)) (omega arith) in
+    omega arith

@@ -1,5 +1,5 @@
 -- The misses for 1 to 128 frames, from how many distinct pages lie between two uses of a page.
-use Prim.Native.Nat.{ℕ, suc}
+use Prim.Native.Nat.{ℕ, suc, _≤_, _<_}
 use mathlib.Core.Path.{_≡_}
 use mathlib.Core.Bool.{Bool}
 use mathlib.Core.List.{List}
@@ -18,6 +18,10 @@ sizes = 128
 -- the misses with 1, 2, .. 128 frames
 unfoldable pub curveOf : List ℕ → List ℕ
 curveOf pages = upTo (λ i. missesAt pages (suc i)) sizes
+
+-- more frames never cost more misses: no number of the first 128 is above one before it
+abbrev pub NeverRises : List ℕ → Type 0
+NeverRises list = (i j : ℕ) → i ≤ j → j < sizes → getD list j 0 ≤ getD list i 0
 
 -- a read or a write: neither pin nor unpin
 abbrev pub plainKind : ℕ → Bool

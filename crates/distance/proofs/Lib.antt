@@ -1,3 +1,4 @@
 pub mod Stack
 pub mod Places
+pub mod Fewer
 pub mod Renaming

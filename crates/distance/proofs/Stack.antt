@@ -2,7 +2,7 @@
 use mathlib.Core.Path.{_≡_, refl, ap, sym, _∙_}
 use mathlib.Core.Bool.{Bool, true, false, true≢false}
 use mathlib.Core.List.{List, [], _∷_}
-use Prim.Native.Nat.{ℕ, zero, suc}
+use Prim.Native.Nat.{ℕ, zero, suc, _≤_}
 use native.Mathlib.Omega.{arith}
 use lib.ListN.{length, getD, take}
 use lib.Seq.{take-take}
@@ -105,3 +105,12 @@ recent-suc pages n = refl
 -- its first f pages come from the first f before
 pub top-suc : (pages : List ℕ) (f n : ℕ) → take f (recent pages (suc n)) ≡ take f (touched (getD pages n 0) (take f (recent pages n)))
 top-suc pages f n = ap (take f) (recent-suc pages n) ∙ take-touched f (getD pages n 0) (recent pages n)
+
+-- what is among the first f is among the first g, where those are no fewer
+pub take-among : (f g x : ℕ) (l : List ℕ) → f ≤ g → among (take f l) x ≡ true → among (take g l) x ≡ true
+take-among zero g x l m h = absurd (not-there x h)
+take-among (suc f) zero x l m h = absurd (omega arith)
+take-among (suc f) (suc g) x [] m h = h
+take-among (suc f) (suc g) x (y ∷ ys) m h =
+    by-test (eqb y x) (λ e. among-here x y (take g ys) e)
+    (λ e. among-more x y (take g ys) (take-among f g x ys (omega arith) (sym (among-there x y (take f ys) e) ∙ h)))

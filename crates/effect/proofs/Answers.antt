@@ -136,27 +136,39 @@ pub record Refused (p : Pool) (d : Did) : Type 0 where
 abbrev Answer : Pool → Did → Type 0
 Answer p d = Refused p d ⊎ (d .row .outcome < 100)
 
-module _ (p : Pool) (page : ℕ) where
-  reference-answer : (write pin : Bool) → Answer p (referenceOf p page write pin)
-  reference-answer write pin = limited (leb referenceLimit (p .k)) refl
-    where
-      done : (d e : Did) → d ≡ e → Accepted p e → Answer p d
-      done d e h q = inr (let n = q .outcome in let m = ap (λ (x : Did). x .row .outcome) h in omega arith)
+-- a reference is refused or accepted
+abbrev pub Taken : Pool → Did → Type 0
+Taken p d = Refused p d ⊎ Accepted p d
 
-      pinned : (b : Bool) (i : ℕ) → leb referenceLimit (p .k) ≡ false → findPage (p .frames) page ≡ At i → (pin && eqb (pinsAt p i) pinLimit) ≡ b → Answer p (referenceOf p page write pin)
+module _ (p : Pool) (page : ℕ) where
+  reference-taken : (write pin : Bool) → Taken p (referenceOf p page write pin)
+  reference-taken write pin = limited (leb referenceLimit (p .k)) refl
+    where
+      done : (e : Did) → referenceOf p page write pin ≡ e → Accepted p e → Taken p (referenceOf p page write pin)
+      done e h q = inr (subst (Accepted p) (sym h) q)
+
+      pinned : (b : Bool) (i : ℕ) → leb referenceLimit (p .k) ≡ false → findPage (p .frames) page ≡ At i → (pin && eqb (pinsAt p i) pinLimit) ≡ b → Taken p (referenceOf p page write pin)
       pinned true i e a t = inl (record { number = pinsFull; same = resident p page write pin i e a ∙ pins-full p i write pin t })
       pinned false i e a t =
-          done (referenceOf p page write pin) (did (row hit i 0 0) [] (pinnedWhere (hitAt p i write) pin i)) (resident p page write pin i e a ∙ pins-free p i write pin t) (hit-accepted p i write pin)
+          done (did (row hit i 0 0) [] (pinnedWhere (hitAt p i write) pin i)) (resident p page write pin i e a ∙ pins-free p i write pin t) (hit-accepted p i write pin)
 
-      found : (f : Found) → leb referenceLimit (p .k) ≡ false → findPage (p .frames) page ≡ f → Answer p (referenceOf p page write pin)
+      found : (f : Found) → leb referenceLimit (p .k) ≡ false → findPage (p .frames) page ≡ f → Taken p (referenceOf p page write pin)
       found (At i) e a = pinned (pin && eqb (pinsAt p i) pinLimit) i e a refl
       found Nothing e a =
-          ⊎-elim {C = Answer p (referenceOf p page write pin)} (done (referenceOf p page write pin) (missOf p page write pin) (absent p page write pin e a))
+          ⊎-elim {C = Taken p (referenceOf p page write pin)} (done (missOf p page write pin) (absent p page write pin e a))
           (λ q. inl (record { number = noFrame; same = absent p page write pin e a ∙ q .0 })) (miss-answers p page write pin)
 
-      limited : (b : Bool) → leb referenceLimit (p .k) ≡ b → Answer p (referenceOf p page write pin)
+      limited : (b : Bool) → leb referenceLimit (p .k) ≡ b → Taken p (referenceOf p page write pin)
       limited true e = inl (record { number = noReferenceLeft; same = at-limit p page write pin e })
       limited false e = found (findPage (p .frames) page) e refl
+
+  -- a read, a write or a pin
+  pub record-taken : (kind : ℕ) → kind ≤ 2 → Taken p (recordOf p page kind)
+  record-taken kind l = subst (Taken p) (sym (kind-reference p page kind l)) (reference-taken (eqb kind 1) (eqb kind 2))
+
+  reference-answer : (write pin : Bool) → Answer p (referenceOf p page write pin)
+  reference-answer write pin =
+      ⊎-elim {C = Answer p (referenceOf p page write pin)} (λ q. inl q) (λ q. inr (let n = q .outcome in omega arith)) (reference-taken write pin)
 
   unpin-answer : Answer p (unpinOf p page)
   unpin-answer = found (findPage (p .frames) page) refl

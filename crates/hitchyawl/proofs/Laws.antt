@@ -1,5 +1,5 @@
 -- What is saved: a replay that is not refused leaves a sound pool, and its image has room in the longest one's. What is
--- drawn: the own frames are within the curve.
+-- drawn: the own frames are within the curve. What is said of the curve: it never rises.
 use mathlib.Core.Path.{_≡_, refl, ap, sym, subst, _∙_}
 use mathlib.Core.Bool.{true}
 use mathlib.Core.List.{List}
@@ -27,6 +27,8 @@ use Rattle.replay.specs.Replay.{Played, replayOf}
 use Rattle.replay.specs.Calls.{mayBegin, countsRefusal, endedOf, countsOf}
 use Rattle.replay.proofs.Begins.{begins-sound, begins-within}
 use Rattle.replay.proofs.Going.{going}
+use Rattle.curve.specs.Curve.{NeverRises, CurveInto}
+use Rattle.curve.proofs.Called.{never-rises}
 
 pub stored-whole : (p : Pool) (o : Order) (out : List ℕ) (r : ℕ) (out′ : List ℕ) → soundPool p ≡ true → usedIn p ≤ 128 → imageLength 128 ≤ length out → SavedTo p o out r out′ → out′ ≡ sets out 0 (encodePool o p)
 stored-whole p o out r out′ ok few long x = x .bytes-hold ∙ rw (save-granted p (length out) ok (omega arith))
@@ -53,3 +55,7 @@ module _ (p : Pool) (t : Tally) (s : List ℕ) where
 -- an accepted trace's own frames, which are drawn
 pub own-frames : (s : List ℕ) (h : Summary) → Promised s h → (1 ≤ h .settings .frames) × (h .settings .frames ≤ 128)
 own-frames s h p = rw (p .summary) (ranges (traceOf s .settings) (p .holds .range) .frames)
+
+-- a curve that was not refused
+pub answered-falls : (s list list′ : List ℕ) (r : ℕ) → CurveInto s list r list′ → r ≡ 0 → NeverRises list′
+answered-falls s list list′ r c e = never-rises s list list′ (subst (λ (n : ℕ). CurveInto s list n list′) e c)

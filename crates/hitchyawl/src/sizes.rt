@@ -1,4 +1,5 @@
 // LRU's misses at every pool size, as lines or as a picture.
+ghost use Rattle.curve.specs.Curve.{NeverRises};
 use crate::work;
 use files::Status;
 use files::printed;
@@ -7,8 +8,10 @@ use lines::put_long;
 use lines::put_next;
 use trace::Checked;
 
-// A line for each size: the frames, then the misses.
-fn say_sizes(misses: &[u32; curve::SIZES]) {
+// A line for each size: the frames, then the misses. The last line says that these never rise.
+fn say_sizes(misses: &[u32; curve::SIZES])
+    requires { ⌜ NeverRises (now misses) ⌝ }
+{
     let mut text = [0u8; 4096];
     let mut at: usize = 0;
     let mut i: usize = 0;
@@ -18,10 +21,14 @@ fn say_sizes(misses: &[u32; curve::SIZES]) {
         at = put_byte(&mut text, at, b'\n');
         i += 1;
     }
+    at = picture::put_never_rises(&mut text, at, misses);
+    at = put_byte(&mut text, at, b'\n');
     lines::say_text(text, at);
 }
 
-fn draw(bytes: &[u8], misses: &[u32; curve::SIZES]) {
+fn draw(bytes: &[u8], misses: &[u32; curve::SIZES])
+    requires { ⌜ NeverRises (now misses) ⌝ }
+{
     let c = trace::check(bytes);
     match c {
         Checked::Refused(_) => (),

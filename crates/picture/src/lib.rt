@@ -1,5 +1,6 @@
 // The curve as a picture, in SVG. A function that puts a part of the text answers the place after it.
 ghost use Prim.Native.Nat.{_≤_, _<_};
+ghost use Rattle.curve.specs.Curve.{NeverRises};
 use lines::put_byte;
 use lines::put_bytes;
 use lines::put_long;
@@ -46,10 +47,10 @@ fn put_head(text: &mut [u8; 4096], at: usize, records: u32) -> usize
     put_within(
         text,
         at,
-        b"<svg xmlns=\"http://www.w3.org/2000/svg\" width=\"180mm\" height=\"110mm\" viewBox=\"0 0 1800 1100\" \
+        b"<svg xmlns=\"http://www.w3.org/2000/svg\" width=\"180mm\" height=\"115mm\" viewBox=\"0 0 1800 1150\" \
         font-family=\"sans-serif\" font-size=\"32\">\n\
         <title>LRU misses by pool size</title>\n\
-        <rect width=\"1800\" height=\"1100\" fill=\"white\"/>\n\
+        <rect width=\"1800\" height=\"1150\" fill=\"white\"/>\n\
         <text x=\"200\" y=\"64\" font-size=\"48\">LRU misses by pool size</text>\n\
         <text x=\"200\" y=\"112\">records ",
         records as u64,
@@ -162,18 +163,40 @@ fn put_sizes(text: &mut [u8; 4096], at: usize) -> usize
     next
 }
 
-fn put_names(text: &mut [u8; 4096], at: usize) -> usize
-    requires { ⌜ at < 4096 ⌝ }
+// The words for a curve that never rises. They can be put for no other.
+pub fn put_never_rises(text: &mut [u8; 4096], at: usize, misses: &[u32; 128]) -> usize
+    requires { ⌜ (at < 4096) × NeverRises (now misses) ⌝ }
+    ensures { λ r. ⌜ r < 4096 ⌝ }
+{
+    put_bytes(text, at, b"never rises")
+}
+
+// What stands below the frames' axis.
+fn put_below(text: &mut [u8; 4096], at: usize, misses: &[u32; 128]) -> usize
+    requires { ⌜ (at < 4096) × NeverRises (now misses) ⌝ }
+    ensures { λ r. ⌜ r < 4096 ⌝ }
+{
+    let named = put_bytes(
+        text,
+        at,
+        b"<text x=\"962\" y=\"1050\">frames</text>\n\
+        <text x=\"962\" y=\"1110\">",
+    );
+    let said = put_never_rises(text, named, misses);
+    put_bytes(text, said, b": more frames never cost more misses</text>\n")
+}
+
+fn put_names(text: &mut [u8; 4096], at: usize, misses: &[u32; 128]) -> usize
+    requires { ⌜ (at < 4096) × NeverRises (now misses) ⌝ }
     ensures { λ r. ⌜ r < 4096 ⌝ }
 {
     let begun = put_bytes(text, at, b"<g text-anchor=\"middle\">\n");
     let sized = put_sizes(text, begun);
+    let told = put_below(text, sized, misses);
     put_bytes(
         text,
-        sized,
-        b"<text x=\"962\" y=\"1050\">frames</text>\n\
-        <text transform=\"translate(50 560) rotate(-90)\">misses</text>\n\
-        </g>\n",
+        told,
+        b"<text transform=\"translate(50 560) rotate(-90)\">misses</text>\n</g>\n",
     )
 }
 
@@ -315,14 +338,14 @@ fn put_own(text: &mut [u8; 4096], at: usize, own: u16, misses: &[u32; 128]) -> u
 }
 
 // Prints the picture for a trace of so many records, whose own size is `own` frames. Place i of the list is the misses with
-// i + 1 frames.
+// i + 1 frames, and never rises: it says so.
 pub fn draw(records: u32, own: u16, misses: &[u32; 128])
-    requires { ⌜ (1 ≤ own) × (own ≤ 128) ⌝ }
+    requires { ⌜ (1 ≤ own) × (own ≤ 128) × NeverRises (now misses) ⌝ }
 {
     let mut text = [0u8; 4096];
     let headed = put_head(&mut text, 0, records);
     let gridded = put_grid(&mut text, headed, misses[0]);
-    let named = put_names(&mut text, gridded);
+    let named = put_names(&mut text, gridded, misses);
     let framed = put_axes(&mut text, named, own);
     let drawn = put_curve(&mut text, framed, misses);
     let end = put_own(&mut text, drawn, own, misses);

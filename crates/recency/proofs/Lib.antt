@@ -2,4 +2,6 @@ pub mod Falling
 pub mod Moved
 pub mod Step
 pub mod Recency
+pub mod Inclusion
+pub mod Accepted
 pub mod Curve

@@ -41,7 +41,7 @@ empty-frame : (s : Settings) (i : ℕ) → i < 128 → frameAt (freshPool s .fra
 unfolding freshPool
 empty-frame s i l = getD-replicate 128 i emptyFrame emptyFrame l
 
-fresh-sized : (s : Settings) → Sized (freshPool s)
+pub fresh-sized : (s : Settings) → Sized (freshPool s)
 unfolding freshPool
 fresh-sized s = record { frames = length-replicate 128 emptyFrame; access = length-replicate {A = ℕ} 1024 0; write = length-replicate {A = ℕ} 512 0 }
 
@@ -59,7 +59,7 @@ fresh-settings : (s : Settings) → freshPool s .settings ≡ s
 unfolding freshPool
 fresh-settings s = refl
 
-fresh-k : (s : Settings) → freshPool s .k ≡ 0
+pub fresh-k : (s : Settings) → freshPool s .k ≡ 0
 unfolding freshPool
 fresh-k s = refl
 

@@ -106,8 +106,9 @@ fn put_curve(fd: i32) {
     put(
         fd,
         b"\nPrints the misses that LRU has with 1 to 128 frames, from a fresh pool and whatever rule the trace\n\
-        names: a line for each, the frames, then the misses. A trace with a pin or an unpin is refused 17.\n\
-        \n  --svg          draws them instead, as an SVG picture 180 by 110 mm, with the trace's own frames\
+        names: a line for each, the frames, then the misses. The last line is `never rises`: under LRU more\n\
+        frames never cost more misses. A trace with a pin or an unpin is refused 17.\n\
+        \n  --svg          draws them instead, as an SVG picture 180 by 115 mm, with the trace's own frames\
         \n                 marked\n",
     );
 }
