@@ -28,33 +28,44 @@ use Rattle.tally.specs.Rows.{refusedRow, isHit}
 use Rattle.tally.specs.Tally.{zeroTally, countedBy}
 use Rattle.effect.specs.Record.{hitOf, leavingOf, evictionOf, missOf, referenceOf, recordOf}
 use Rattle.replay.specs.Replay.{replayTo}
+use Rattle.distance.specs.Distance.{distanceAt}
+use Rattle.distance.specs.Recent.{recent}
+use Rattle.distance.proofs.Stack.{take-among}
+use Rattle.distance.proofs.Fewer.{within-wider, fewer-misses}
 use Rattle.curve.specs.Curve.{noPins, curveRefusal, CurveInto}
 use Rattle.curve.proofs.Called.{granted}
-use Rattle.recency.specs.Recency.{rowAt}
+use Rattle.recency.specs.Recency.{Plain, rowAt}
 use Rattle.recency.specs.Curve.{lruMisses}
+use Rattle.recency.proofs.Recency.{recency-law}
 use Rattle.recency.proofs.Curve.{lru-range, plain-kind}
-use Rattle.recency.proofs.Inclusion.{inclusion-law}
 use Rattle.recency.proofs.Accepted.{plain-accepted, accepted-few}
 use Rattle.rename.specs.Sameness.{AreBytes}
 use Rattle.worked.specs.Records.{clock, traced}
 use Rattle.worked.proofs.Settled.{row-of-record}
 use Rattle.demands.proofs.Curve.{curves}
-use Rattle.demands.specs.Memory.{AllAccepted, rowWith, PromisedFor, countsWith, clockReads, watt, wattReads, ClockRises, WattRises, MoreMemory}
+use Rattle.demands.specs.Memory.{beginningWith, AllAccepted, rowWith, PromisedFor, countsWith, clockReads, watt, wattReads, ClockRises, WattRises, MoreMemory}
 
 -- a row of the replay is what its record does
 row-is : (s : Settings) (t : Tally) (trace : Trace) (f n : ℕ) → suc n ≤ length (trace .pages) → rowWith s t trace f n ≡ rowAt (setFrames f s) t trace n
 row-is s t trace f n l = row-of-record (freshPool (setFrames f s)) t trace (length (trace .pages)) n (refusedRow 0) l
 
+-- the f pages most recently used are among the g, where those are no fewer
 more : (f g : ℕ) → f ≤ g → PromisedFor 0 f g
 more f g l s t trace rule smaller larger pins accepted _ =
     let kinds = plain-kind (trace .kinds) pins in
     let few = accepted-few (setFrames f s) t trace (λ n m. kinds n) smaller accepted in
-    let x = inclusion-law (setFrames f s) (setFrames g s) t trace (record { range = smaller; rule = rule }) (record { range = larger; rule = rule }) l (record { kinds = λ n m. kinds n; few = few }) in
+    let plain : Plain trace = record { kinds = λ n m. kinds n; few = few } in
+    let x = recency-law (setFrames f s) t trace (record { range = smaller; rule = rule }) plain in
+    let y = recency-law (setFrames g s) t trace (record { range = larger; rule = rule }) plain in
+    let fewer : (n : ℕ) → n ≤ length (trace .pages) → beginningWith s t trace g n .tally .misses ≤ beginningWith s t trace f n .tally .misses =
+    λ n m. let u = x .counted n m in let v = y .counted n m in let w = fewer-misses (trace .pages) f g n l in omega arith in
     record {
-      pages = x .pages;
-      rows = λ n m h. ap isHit (row-is s t trace g n m) ∙ x .hits n m (ap isHit (sym (row-is s t trace f n m)) ∙ h);
-      beginnings = x .misses;
-      misses = x .misses (length (trace .pages)) (omega arith);
+      pages = λ n m page h. y .held n m page ∙ take-among f g page (recent (trace .pages) n) l (sym (x .held n m page) ∙ h);
+      rows = λ n m h.
+          ap isHit (row-is s t trace g n m) ∙ y .hits n m
+          ∙ within-wider f g (distanceAt (trace .pages) n) l (sym (x .hits n m) ∙ ap isHit (sym (row-is s t trace f n m)) ∙ h);
+      beginnings = fewer;
+      misses = fewer (length (trace .pages)) (omega arith);
     }
 
 accepted : (trace : Trace) → Proper trace → noPins (trace .kinds) ≡ true → (t : Tally) (f : ℕ) → 1 ≤ f → f ≤ 128 → AllAccepted (setRule 0 (trace .settings)) t trace f

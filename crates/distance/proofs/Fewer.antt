@@ -1,6 +1,6 @@
 -- More frames never foretell more misses.
 use mathlib.Core.Path.{_≡_}
-use mathlib.Core.Bool.{Bool, true, false, not}
+use mathlib.Core.Bool.{true, not}
 use mathlib.Core.List.{List}
 use Prim.Native.Nat.{ℕ, zero, suc, _≤_}
 use native.Mathlib.Omega.{arith}
@@ -8,7 +8,7 @@ use borrow.Author.Tests.{lt-ltb, ltb-true}
 use Rattle.search.specs.declared.Found.{Found}
 use Rattle.search.specs.declared.Found.the-variants.{At, Nothing}
 use Rattle.search.specs.Search.{oneIf}
-use Rattle.search.proofs.Count.{count-none, count-suc}
+use Rattle.search.proofs.Count.{one-few, count-none, count-suc}
 use Rattle.distance.specs.Distance.{distanceAt, within, missesTo}
 use Rattle.distance.proofs.Stack.{by-test}
 
@@ -21,11 +21,7 @@ within-wider f g Nothing l h = h
 one-fewer : (f g : ℕ) (distance : Found) → f ≤ g → oneIf (not (within g distance)) ≤ oneIf (not (within f distance))
 one-fewer f g distance l =
     by-test (within f distance) (λ e. rw (e, within-wider f g distance l e) (omega arith))
-    (λ e. rw e (few (not (within g distance))))
-  where
-    few : (b : Bool) → oneIf b ≤ 1
-    few true = omega arith
-    few false = omega arith
+    (λ e. rw e (one-few (not (within g distance))))
 
 pub fewer-misses : (pages : List ℕ) (f g n : ℕ) → f ≤ g → missesTo pages g n ≤ missesTo pages f n
 unfolding missesTo

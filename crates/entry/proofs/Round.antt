@@ -16,6 +16,7 @@ use Rattle.word.specs.declared.Order.the-variants.{High, Low}
 use Rattle.word.proofs.Laws.{Bytes, number-back, length-bytes}
 use Rattle.word.proofs.Places.{behind}
 use Rattle.search.specs.Search.{oneIf}
+use Rattle.search.proofs.Count.{one-few}
 use Rattle.settings.proofs.Places.{join, join-is}
 use Rattle.trace.specs.Layout.{upTo}
 use Rattle.trace.proofs.Lists.{upTo-is}
@@ -41,10 +42,6 @@ pub record Narrow (fr : Frame) : Type 0 where
 pub bit-back : (b : Bool) → eqb (oneIf b) 1 ≡ b
 bit-back true = refl
 bit-back false = refl
-
-bit-small : (b : Bool) → oneIf b ≤ 1
-bit-small true = omega arith
-bit-small false = omega arith
 
 bit-again : (n : ℕ) → n ≤ 1 → oneIf (eqb n 1) ≡ n
 bit-again zero h = refl
@@ -130,7 +127,7 @@ module _ (o : Order) (s : List ℕ) (at : ℕ) (p : Pool) (i : ℕ) (zs : List �
   is-page = ap (λ (n : ℕ). numberAt o 4 n s) (sym (add-zero at)) ∙ field 4 0 (fr .page) (told .page) (narrow .page)
 
   is-dirty : dirtyIn o s at ≡ oneIf (fr .dirty)
-  is-dirty = field 2 12 (oneIf (fr .dirty)) (told .dirty) (let b = bit-small (fr .dirty) in omega arith)
+  is-dirty = field 2 12 (oneIf (fr .dirty)) (told .dirty) (let b = one-few (fr .dirty) in omega arith)
 
   is-pins : pinsIn o s at ≡ fr .pins
   is-pins = field 2 8 (fr .pins) (told .pins) (let n = narrow .pins in omega arith)
@@ -151,7 +148,7 @@ module _ (o : Order) (s : List ℕ) (at : ℕ) (p : Pool) (i : ℕ) (zs : List �
   fits-back : entryFits o s at ≡ true
   unfolding entryFits
   fits-back =
-      let b = bit-small (fr .dirty) in
+      let b = one-few (fr .dirty) in
       let np = narrow .pins in
       let nc = narrow .count in
       let na = narrow .accesses in

@@ -36,16 +36,22 @@ fn draw(bytes: &[u8], misses: &[u32; curve::SIZES])
     }
 }
 
+fn show(bytes: &[u8], misses: &[u32; curve::SIZES], svg: bool)
+    requires { ⌜ NeverRises (now misses) ⌝ }
+{
+    if svg {
+        draw(bytes, misses);
+    } else {
+        say_sizes(misses);
+    }
+}
+
 pub fn curve(bytes: &[u8], svg: bool) -> Status {
     let mut misses = [0u32; curve::SIZES];
     let refusal = curve::misses(bytes, &mut misses);
     if refusal != 0 {
         return work::refused(refusal);
     }
-    if svg {
-        draw(bytes, &misses);
-    } else {
-        say_sizes(&misses);
-    }
+    show(bytes, &misses, svg);
     printed(Status::Done)
 }

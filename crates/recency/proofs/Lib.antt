@@ -2,6 +2,5 @@ pub mod Falling
 pub mod Moved
 pub mod Step
 pub mod Recency
-pub mod Inclusion
 pub mod Accepted
 pub mod Curve

@@ -1,2 +1,1 @@
-// Under LRU a pool of f frames holds the f most recently used pages, so the misses of a replay are those that the distances foretell, and a larger
-// pool holds no less. No code.
+// Under LRU a pool of f frames holds the f most recently used pages, so the misses of a replay are those that the distances foretell. No code.

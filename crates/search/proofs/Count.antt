@@ -10,6 +10,11 @@ use borrow.Author.Tests.{lt-ltb, le-ltb}
 use Rattle.search.specs.Search.{oneIf, countBelow}
 use Rattle.search.proofs.Least.{last-or-below}
 
+-- a test counts at most once
+pub one-few : (b : Bool) → oneIf b ≤ 1
+one-few true = omega arith
+one-few false = omega arith
+
 pub count-none : (ok : ℕ → Bool) → countBelow ok 0 ≡ 0
 unfolding countBelow
 count-none ok = refl
@@ -25,10 +30,6 @@ count-more ok n = ap (countBelow ok) (add-one n) ∙ count-suc ok n
 pub count-few : (ok : ℕ → Bool) (n : ℕ) → countBelow ok n ≤ n
 count-few ok zero = let e = count-none ok in omega arith
 count-few ok (suc n) = let e = count-suc ok n in let h = count-few ok n in let l = one-few (ok n) in omega arith
-  where
-    one-few : (b : Bool) → oneIf b ≤ 1
-    one-few true = omega arith
-    one-few false = omega arith
 
 -- tests that agree count the same
 pub count-cong : (ok such : ℕ → Bool) (n : ℕ) → ((i : ℕ) → i < n → ok i ≡ such i) → countBelow ok n ≡ countBelow such n

@@ -11,6 +11,7 @@ use lib.Seq.{take-suc}
 use lib.Dec.{leb}
 use borrow.Author.Tests.{leb-true}
 use Rattle.search.specs.Search.{oneIf}
+use Rattle.search.proofs.Count.{one-few}
 use Rattle.tally.specs.Rows.{isHit, isMiss, isEviction, isBatch, isRefused}
 use Rattle.tally.specs.Tally.{numbersOf, tallyOf, raisesOf, raisesIn, tallyLimit, noneAbove, tallyWithin, countedBy, countedRows}
 use Rattle.tally.specs.ForCode.{word32, AtMost, sums, Within, Countable}
@@ -80,16 +81,12 @@ within-own t = at-most-total (numbersOf t)
 pub within-more : (t : Tally) (m n : ℕ) → m ≤ n → Within t m → Within t n
 within-more t m n l b = at-most-more m n (numbersOf t) l b
 
-one-if-le : (such : Bool) → oneIf such ≤ 1
-one-if-le true = omega arith
-one-if-le false = omega arith
-
 -- a row of at most 16 pages written raises no count by more than 16
 raises-few : (w : Row) → w .batch ≤ 16 → AtMost 16 (raisesOf w)
 raises-few w l = (few (isHit w), (few (isMiss w), (few (isEviction w), (few (isBatch w), (l, (few (isRefused w), tt))))))
   where
     few : (such : Bool) → oneIf such ≤ 16
-    few such = let h = one-if-le such in omega arith
+    few such = let h = one-few such in omega arith
 
 raised-few : (t : Tally) (w : Row) (m : ℕ) → Within t m → w .batch ≤ 16 → AtMost (m + 16) (sums (numbersOf t) (raisesOf w))
 raised-few t w m b l = at-most-sums m 16 (numbersOf t) (raisesOf w) b (raises-few w l)

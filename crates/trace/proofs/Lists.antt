@@ -13,6 +13,7 @@ use lib.Dec.{eqb}
 use borrow.Author.Tests.{eqb-true, leb-true}
 use Rattle.word.proofs.Laws.{sets-append}
 use Rattle.search.specs.Search.{oneIf}
+use Rattle.search.proofs.Count.{one-few}
 use Rattle.trace.specs.Layout.{upTo, isWrite, writesIn, knownKind, knownKinds, allZero}
 
 -- ---- f 0, f 1, ..
@@ -76,13 +77,9 @@ all-zero f (suc n) h =
     zero-snoc (upTo f n) (f n)
     ∙ rw (all-zero f n (λ i l. h i (omega arith)), h n (omega arith))
 
-one-le : (b : Bool) → oneIf b ≤ 1
-one-le true = omega arith
-one-le false = omega arith
-
 pub writes-le : (l : List ℕ) → writesIn l ≤ length l
 writes-le [] = omega arith
-writes-le (k ∷ l) = omega (arith, writes-le l, one-le (eqb k 1))
+writes-le (k ∷ l) = omega (arith, writes-le l, one-few (eqb k 1))
 
 -- a known kind is at most 3, and so is the 0 behind the list's end
 pub known-le : (l : List ℕ) (i : ℕ) → knownKinds l ≡ true → getD l i 0 ≤ 3
