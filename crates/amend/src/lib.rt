@@ -1,4 +1,5 @@
 // A trace taken as if its header said otherwise, the trace of a text, and the sizes of a quote: what commands do beyond printing.
+#![tactic(auto)]
 ghost use Rattle.std.specs.Prelude.{◌≡◌, ◌≤◌, length, take};
 ghost use Rattle.trace.specs.Layout.{record_limit, trace_from};
 ghost use Rattle.wish.specs.Wish.{wished_settings};
@@ -15,7 +16,7 @@ use wish::Wish;
 use word::Order;
 
 // What comes of a text: its first bad line, the trace's refusal, or how many bytes the trace has.
-#[derive(Drop)]
+#[derive(Clone, Copy)]
 pub enum Imported {
     BadLine(usize),
     Refused(u32),
@@ -23,7 +24,7 @@ pub enum Imported {
 }
 
 // What a sheet says: the refusal or 0; settings, number of records and counts.
-#[derive(Drop)]
+#[derive(Clone, Copy)]
 pub struct Counted {
     pub refusal: u32,
     pub settings: Settings,

@@ -1,4 +1,5 @@
 // Replays a trace on standard input to counts from a fresh pool, and prints the sheet, or `trace refused N`.
+#![tactic(auto)]
 
 fn bench(bytes: &[u8]) {
     let c = amend::counts_of(bytes);

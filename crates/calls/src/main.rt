@@ -3,6 +3,7 @@
 // the call (0 read, 1 write, 2 check, 3 step, 4 replay, 5 counts); the lengths of image and trace; how many row places are
 // lent, and how many places for written pages, or bytes for `write`; the six counts of the tally; page and kind; the order
 // for `write`, 0 for high; two that mean nothing. A case that is not whole or does not fit ends the run.
+#![tactic(auto)]
 ghost use Rattle.std.specs.Prelude.{◌≡◌, ◌<◌, ◌≤◌, length};
 
 mod dump;
@@ -23,7 +24,7 @@ const LIST_ROOM: usize = 1024;
 const BYTE_ROOM: usize = 16384;
 
 // A case but for its bytes.
-#[derive(Drop)]
+#[derive(Clone, Copy)]
 struct Case {
     call: u32,
     image: usize,

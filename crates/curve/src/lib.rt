@@ -1,5 +1,6 @@
 // LRU's misses at every pool size, from one pass over a trace: the pages most recently used stand on a stack, and each use tells how many stand
 // above its page. No pool is needed.
+#![tactic(auto)]
 ghost use Rattle.std.specs.Prelude.{◌≡◌, ◌≤◌, ◌<◌, length, take};
 ghost use Rattle.std.proofs.lemmas.List.Edits.{sets};
 ghost use Rattle.search.specs.ForCode.{past};
@@ -16,7 +17,7 @@ pub const SIZES: usize = 128;
 
 // What one pass over the records finds: whether all are reads and writes, and how many uses found their page at each place, counted one past it; at 0
 // those that did not.
-#[derive(Drop)]
+#[derive(Clone, Copy)]
 struct Passed {
     pub plain: bool,
     pub times: [u32; SIZES + 1],

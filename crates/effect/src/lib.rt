@@ -1,4 +1,5 @@
 // What one record does to a pool: its row, the pages written, and the pool afterwards.
+#![tactic(auto)]
 ghost use Rattle.std.specs.Prelude.{◌≡◌, true, ◌+◌, ◌<◌, ◌≤◌, length, set};
 ghost use Rattle.search.specs.Search.{pick};
 ghost use Rattle.limit.specs.Limits.{reference_limit};
@@ -15,7 +16,7 @@ use table::{Head, Table};
 use tally::Row;
 
 // A record's row, and settings, k, hand and sampler number afterwards. Frames and logs are changed where they stand.
-#[derive(Drop)]
+#[derive(Clone, Copy)]
 pub struct Worked {
     pub row: Row,
     pub head: Head,
@@ -88,7 +89,7 @@ fn settle_unpin(found: Found, pins: u8) -> Row
 }
 
 // What a record asks for: a reference or an unpin, or neither; with a write, with a pin.
-#[derive(Drop)]
+#[derive(Clone, Copy)]
 struct Asked {
     pub reference: bool,
     pub unpin: bool,

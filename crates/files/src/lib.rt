@@ -1,12 +1,13 @@
 // Input and output files, by the number of the word that names them. What fails is told on standard error at once, since
 // errno tells of the last failure alone.
+#![tactic(auto)]
 pub mod spaces;
 
 use check::same;
 use libc::PATH_MAX;
 
 // How a run ends.
-#[derive(Drop)]
+#[derive(Clone, Copy)]
 pub enum Status {
     Done,
     Refused,
@@ -14,14 +15,14 @@ pub enum Status {
     Failed,
 }
 
-#[derive(Drop)]
+#[derive(Clone, Copy)]
 pub struct Input {
     pub failed: bool,
     pub size: usize,
 }
 
 // A new file beside the output: its descriptor or -1, and how long its name is.
-#[derive(Drop)]
+#[derive(Clone, Copy)]
 struct Part {
     fd: i32,
     size: usize,

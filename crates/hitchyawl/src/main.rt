@@ -1,5 +1,6 @@
 // The bench's commands for a person at a shell: the words say what is done to which file. `main` returns nothing, so the
 // status goes to descriptor 3 as a digit.
+#![tactic(auto)]
 mod carry;
 mod sizes;
 mod work;

@@ -1,4 +1,5 @@
 // What the C transport calls: numbers and bytes in, 0 or a refusal out. include/hitchyawl.h is the same for C.
+#![tactic(auto)]
 ghost use Rattle.std.specs.Prelude.{◌≡◌, ◌*◌, ◌≤◌, length};
 ghost use Rattle.trace.specs.Check.{check_of, number_of_answer};
 ghost use Rattle.scribe.specs.Write.{ConvertedTo, ConvertsBack};

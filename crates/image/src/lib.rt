@@ -1,4 +1,5 @@
 // The pool image: a pool as bytes, in either byte order.
+#![tactic(auto)]
 ghost use Rattle.std.specs.Prelude.{◌≡◌, true, ◌++◌, ◌+◌, ◌*◌, ◌≤◌, ◌<◌, length, leb};
 ghost use Rattle.std.proofs.lemmas.List.Edits.{sets};
 ghost use Rattle.search.specs.Search.{every_below};
@@ -23,7 +24,7 @@ pub const HEADER_LENGTH: usize = 64;
 pub const BYTE_LIMIT: usize = HEADER_LENGTH + ENTRY_LENGTH * 128;
 
 // What one pass over the entries finds.
-#[derive(Drop)]
+#[derive(Clone, Copy)]
 struct Survey {
     pub zeros: bool,
     pub fits: bool,

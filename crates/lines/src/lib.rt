@@ -1,4 +1,5 @@
 // Words and numbers on standard output, for the programs.
+#![tactic(auto)]
 ghost use Rattle.std.specs.Prelude.{◌+◌, ◌≤◌, ◌<◌, length};
 
 use word::Order;

@@ -1,5 +1,6 @@
 // What is printed of a trace and of its replay: the trace's settings and counts; the sheet; the listing, its rows, the
 // pages that were written, the pool that is left, and the counts; and the pool of an image.
+#![tactic(auto)]
 ghost use Rattle.std.specs.Prelude.{◌≡◌, ◌+◌, ◌<◌, ◌≤◌, length};
 ghost use Rattle.trace.specs.Check.{check_of, number_of_answer};
 ghost use Rattle.pool.specs.Pool.{fresh_of};

@@ -1,9 +1,10 @@
 // Decimal numbers as text.
+#![tactic(auto)]
 ghost use Rattle.std.specs.Prelude.{◌≡◌, ◌+◌, ◌*◌, ◌-◌, ◌≤◌, min};
 ghost use Rattle.numeral.specs.Numeral.{number_limit, is_digit, numeral_of};
 
 // What a text is: a number, or none.
-#[derive(Drop)]
+#[derive(Clone, Copy)]
 pub enum Numeral {
     Number(u64),
     NoNumber,

@@ -1,5 +1,6 @@
 // For timing: reads the image on standard input and writes it again, a hundred thousand times, each time with another
 // sampler number, and prints the sum of what was refused.
+#![tactic(auto)]
 ghost use Rattle.std.specs.Prelude.{◌≤◌, length};
 
 use word::Order;

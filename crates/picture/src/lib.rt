@@ -1,4 +1,5 @@
 // The curve as a picture, in SVG. A function that puts a part of the text answers the place after it.
+#![tactic(auto)]
 ghost use Rattle.std.specs.Prelude.{◌≤◌, ◌<◌};
 ghost use Rattle.curve.specs.Curve.{NeverRises};
 

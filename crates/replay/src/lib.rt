@@ -1,4 +1,5 @@
 // The single step, replay with rows, and replay to counts.
+#![tactic(auto)]
 ghost use Rattle.std.specs.Prelude.{◌≡◌, true, ◌+◌, ◌≤◌, length};
 ghost use Rattle.refusal.specs.Refusals.{demand, no_room, other_settings};
 ghost use Rattle.settings.specs.Settings.{same_settings};
@@ -13,7 +14,7 @@ use tally::{Row, Tally};
 use trace::{Checked, Summary};
 
 // What a step gives: a refusal or 0, its row, and pool and tally afterwards.
-#[derive(Drop)]
+#[derive(Clone, Copy)]
 pub struct Stepped {
     pub refusal: u32,
     pub row: Row,
@@ -22,7 +23,7 @@ pub struct Stepped {
 }
 
 // Where a replay ends: a refusal or 0, and pool and tally afterwards.
-#[derive(Drop)]
+#[derive(Clone, Copy)]
 pub struct Ended {
     pub refusal: u32,
     pub pool: Pool,

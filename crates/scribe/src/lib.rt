@@ -1,4 +1,5 @@
 // The writer and the converter of traces.
+#![tactic(auto)]
 ghost use Rattle.std.specs.Prelude.{◌≡◌, ◌+◌, ◌≤◌, length};
 ghost use Rattle.std.proofs.lemmas.List.Edits.{sets};
 ghost use Rattle.trace.specs.Layout.{record_limit, header_length, file_length, known_kinds, writes_in, trace_from};
@@ -12,7 +13,7 @@ use trace::{Checked, HEADER_LENGTH, RECORD_LENGTH, Summary};
 use word::Order;
 
 // What one pass over kinds finds.
-#[derive(Drop)]
+#[derive(Clone, Copy)]
 struct Kinds {
     pub known: bool,
     pub writes: usize,

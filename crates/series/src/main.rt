@@ -1,19 +1,20 @@
 // Replays a series of traces on standard input and prints the listing of each. A trace is preceded by its length, 4 bytes
 // with the high byte first, and goes on from the pool and the tally of the one before. The first trace starts from a fresh
 // pool and a tally of zeros, and so does the one after a length of 0, for which `anew` is printed.
+#![tactic(auto)]
 use pool::Pool;
 use tally::Tally;
 use word::Order;
 
 // What the next trace goes on from; where nothing is present, it starts afresh.
-#[derive(Drop)]
+#[derive(Clone, Copy)]
 struct State {
     present: bool,
     pool: Pool,
     tally: Tally,
 }
 
-#[derive(Drop)]
+#[derive(Clone, Copy)]
 struct Turn {
     whole: bool,
     state: State,

@@ -1,5 +1,6 @@
 // A pool's frames as one table of numbers that can be lent, which a struct cannot: field after field, so that a search goes through one field.
 // Behind them it has room for guesses at where a page is, which no frame reads.
+#![tactic(auto)]
 ghost use Rattle.std.specs.Prelude.{◌≡◌, false, ◌%◌, ◌<◌, length, set};
 ghost use Rattle.pool.specs.Pool.{frame_at, with_count, now_at, with_dirty};
 ghost use Rattle.table.specs.Table.{table_length, frames_in, guess_place, guess_in, head_of, pool_in};
@@ -16,7 +17,7 @@ pub const LENGTH: usize = 2048;
 pub type Table = [u32; LENGTH];
 
 // What a pool holds beside its frames and logs.
-#[derive(Drop)]
+#[derive(Clone, Copy)]
 pub struct Head {
     pub settings: Settings,
     pub k: u32,

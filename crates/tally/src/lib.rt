@@ -1,11 +1,12 @@
 // Rows and the tally: what one step answers, and the six counts that it raises.
+#![tactic(auto)]
 ghost use Rattle.std.specs.Prelude.{◌≡◌, ◌+◌, ◌≤◌, length};
 ghost use Rattle.std.proofs.lemmas.List.Edits.{sets};
 ghost use Rattle.tally.specs.Rows.{row_numbers, refused_row};
 ghost use Rattle.tally.specs.Tally.{numbers_of, counted_by, tally_within, zero_tally};
 ghost use Rattle.tally.specs.ForCode.{Countable};
 
-#[derive(Drop)]
+#[derive(Clone, Copy)]
 pub struct Row {
     pub outcome: u32,
     pub frame: u32,
@@ -13,7 +14,7 @@ pub struct Row {
     pub batch: u32,
 }
 
-#[derive(Drop)]
+#[derive(Clone, Copy)]
 pub struct Tally {
     pub hits: u32,
     pub misses: u32,

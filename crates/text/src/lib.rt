@@ -1,4 +1,5 @@
 // A trace as text: a line for each record.
+#![tactic(auto)]
 ghost use Rattle.std.specs.Prelude.{◌≡◌, ◌+◌, ◌*◌, ◌≤◌, min, length, drop};
 ghost use Rattle.std.proofs.lemmas.List.Edits.{sets};
 ghost use Rattle.numeral.specs.Numeral.{numeral_of};
@@ -12,7 +13,7 @@ use numeral::Numeral;
 use trace::{Checked, Summary};
 
 // What a line is: passed over, a record's kind and page, or bad.
-#[derive(Drop)]
+#[derive(Clone, Copy)]
 pub enum Line {
     Passed,
     Record(u16, u32),
@@ -20,14 +21,14 @@ pub enum Line {
 }
 
 // What one look through a text finds: the first bad line, counted from 1, or 0; and how many records there are.
-#[derive(Drop)]
+#[derive(Clone, Copy)]
 pub struct Survey {
     pub bad: usize,
     pub records: usize,
 }
 
 // What comes of a trace as text: its refusal, or how many bytes the text has.
-#[derive(Drop)]
+#[derive(Clone, Copy)]
 pub enum Exported {
     Refused(u32),
     Written(usize),

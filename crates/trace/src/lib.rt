@@ -1,4 +1,5 @@
 // Traces of edition 1: a header of 48 bytes, then records of 8 bytes, in either byte order.
+#![tactic(auto)]
 ghost use Rattle.std.specs.Prelude.{◌≡◌, ◌≤◌, ◌<◌, length};
 ghost use Rattle.std.proofs.lemmas.List.Edits.{sets};
 ghost use Rattle.search.specs.Search.{pick};
@@ -10,35 +11,35 @@ use settings::Settings;
 use word::Order;
 
 // What the first four bytes say.
-#[derive(Drop)]
+#[derive(Clone, Copy)]
 pub enum Mark {
     Known(Order),
     Unknown,
 }
 
 // What the checker tells of a trace that it accepts.
-#[derive(Drop)]
+#[derive(Clone, Copy)]
 pub struct Summary {
     pub settings: Settings,
     pub order: Order,
     pub count: u32,
 }
 
-#[derive(Drop)]
+#[derive(Clone, Copy)]
 pub enum Checked {
     Refused(u32),
     Accepted(Summary),
 }
 
 // What one pass over the records finds.
-#[derive(Drop)]
+#[derive(Clone, Copy)]
 struct Survey {
     pub known: bool,
     pub zeros: bool,
     pub writes: u32,
 }
 
-#[derive(Drop)]
+#[derive(Clone, Copy)]
 pub struct Record {
     pub page: u32,
     pub kind: u16,

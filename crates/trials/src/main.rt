@@ -1,5 +1,6 @@
 // Hands each case of a bundle on standard input to the checker, the reader, the writer or the converter, and prints a line
 // with the answer and digests of all lent memory. traces/make writes the bundle, says how it is laid out, and knows the lines.
+#![tactic(auto)]
 ghost use Rattle.std.specs.Prelude.{◌≡◌, ◌+◌, ◌*◌, ◌≤◌, ◌<◌, length};
 
 use lines::{say, say_number, say_order};

@@ -1,4 +1,5 @@
 // The replacement rules: each, in a module of its own, chooses its victim.
+#![tactic(auto)]
 pub mod clock;
 pub mod lru;
 pub mod watt;
@@ -13,7 +14,7 @@ use search::Found;
 use table::{Head, Table};
 
 // What a rule chooses: its victim or none, and hand and sampler number then. The frames that it leaves stand in the table.
-#[derive(Drop)]
+#[derive(Clone, Copy)]
 pub struct Chosen {
     pub found: Found,
     pub hand: u16,
@@ -21,7 +22,7 @@ pub struct Chosen {
 }
 
 // A rule's name, at the front of the bytes.
-#[derive(Drop)]
+#[derive(Clone, Copy)]
 pub struct Name {
     pub bytes: [u8; 16],
     pub length: usize,

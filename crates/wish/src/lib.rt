@@ -1,4 +1,5 @@
 // Settings that are wished for instead of a trace's own.
+#![tactic(auto)]
 ghost use Rattle.std.specs.Prelude.{◌≡◌, [], ◌∷◌, ◌<◌};
 ghost use Rattle.settings.specs.Settings.{the_fields, settings_by};
 ghost use Rattle.wish.specs.Wish.{no_wish, wished_for, chosen_at, fit_fields, settings_fitting, wished_settings, usual_settings};
@@ -6,7 +7,7 @@ ghost use Rattle.wish.specs.Wish.{no_wish, wished_for, chosen_at, fit_fields, se
 use settings::Settings;
 
 // For each setting, by its place among the eight, whether another number is wished for, and which.
-#[derive(Drop)]
+#[derive(Clone, Copy)]
 pub struct Wish {
     pub given: [bool; 8],
     pub number: [u64; 8],

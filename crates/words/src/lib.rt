@@ -1,4 +1,5 @@
 // The words that the program is started with, as what they ask for.
+#![tactic(auto)]
 pub mod help;
 pub mod names;
 
@@ -13,7 +14,7 @@ use word::Order;
 const RULES: u16 = 3;
 
 // What is wrong with the words.
-#[derive(Drop)]
+#[derive(Clone, Copy)]
 pub enum Fault {
     Nothing,
     NoCommand,
@@ -31,7 +32,7 @@ pub enum Fault {
 }
 
 // Of a file its word's number is kept, and 0 where none is named.
-#[derive(Drop)]
+#[derive(Clone, Copy)]
 pub struct Request {
     pub command: Command,
     pub help: bool,

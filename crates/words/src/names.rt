@@ -1,7 +1,7 @@
 // The names of the commands and of their options, and what each command takes.
 use check::same;
 
-#[derive(Drop)]
+#[derive(Clone, Copy)]
 pub enum Command {
     Check,
     Inspect,
@@ -18,7 +18,7 @@ pub enum Command {
 }
 
 // What a word that begins with `-` is.
-#[derive(Drop)]
+#[derive(Clone, Copy)]
 pub enum Flag {
     // A setting, by its place in a wish.
     Setting(usize),
@@ -35,7 +35,7 @@ pub enum Flag {
 }
 
 // How many files a command takes, and which options.
-#[derive(Drop)]
+#[derive(Clone, Copy)]
 pub struct Takes {
     pub least: usize,
     pub most: usize,
