@@ -1,5 +1,6 @@
 // Decimal numbers as text.
 #![tactic(auto)]
+
 ghost use Rattle.std.specs.Prelude.{◌≡◌, ◌+◌, ◌*◌, ◌-◌, ◌≤◌, min};
 ghost use Rattle.numeral.specs.Numeral.{number_limit, is_digit, numeral_of};
 

@@ -1,5 +1,6 @@
 // The scale of the curve's picture, in tenths of a millimetre; `most` is the misses with one frame.
 #![tactic(auto)]
+
 ghost use Rattle.std.specs.Prelude.{◌≡◌, ◌*◌, ◌≤◌, ◌<◌, leb, get_or};
 ghost use Rattle.scale.specs.Scale.{steps, step_of, ticks_of, top_of, x_of, y_of, misses_with};
 

@@ -1,5 +1,6 @@
 // The eight settings of a replay: their ranges, when two are the same, and their bytes.
 #![tactic(auto)]
+
 ghost use Rattle.std.specs.Prelude.{◌≡◌, ◌+◌, ◌≤◌, length, take};
 ghost use Rattle.std.proofs.lemmas.List.Edits.{sets};
 ghost use Rattle.settings.specs.Settings.{between, the_fields, in_range, same_settings, settings_length, field_bytes, settings_bytes, settings_at, one_frame};

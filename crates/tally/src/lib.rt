@@ -1,5 +1,6 @@
 // Rows and the tally: what one step answers, and the six counts that it raises.
 #![tactic(auto)]
+
 ghost use Rattle.std.specs.Prelude.{◌≡◌, ◌+◌, ◌≤◌, length};
 ghost use Rattle.std.proofs.lemmas.List.Edits.{sets};
 ghost use Rattle.tally.specs.Rows.{row_numbers, refused_row};

@@ -1,5 +1,6 @@
 // What a page is worth, as exact fractions: parts, the worth of a log, the value of a page, and comparing them.
 #![tactic(auto)]
+
 ghost use Rattle.std.specs.Prelude.{◌≡◌, ◌+◌, ◌<◌, ◌≤◌, length};
 ghost use Rattle.limit.specs.Limits.{reference_limit};
 ghost use Rattle.worth.specs.Value.{age_of, part_of, less_fraction, greater_of, worth_of, value_of};

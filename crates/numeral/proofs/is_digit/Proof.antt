@@ -1,6 +1,0 @@
-use mathlib.Core.Path.{refl}
-use Rattle.numeral.proofs.is_digit.Statement.{statement}
-use Rattle.numeral.proofs.is_digit.Tie as tie
-
-pub is-digit-spec : {M : Type 1} → statement M
-is-digit-spec = tie.close (tie.spec (λ c. refl))

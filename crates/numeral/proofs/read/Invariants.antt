@@ -1,0 +1,14 @@
+use mathlib.Core.Path.{◌≡◌, refl, sym, ap, ◌∙◌}
+use Prim.Native.Nat.{◌≤◌, ◌<◌, ◌-◌, min}
+use native.Mathlib.Omega.{arith}
+use lib.ListN.{length, take}
+use lib.Seq.{take_all}
+use Rattle.numeral.specs.Numeral.{number_limit, all_digits, value_after}
+use Rattle.numeral.proofs.Laws.{digits_more, value_more, is_number, is_none}
+use Rattle.numeral.proofs.read.Given as goal
+
+abbrev pub invariant-loop-i : goal.invariant-loop-i
+invariant-loop-i l = (l.i ≤ length l.text) × (l.n ≤ number_limit) × (l.digits ≡ all_digits (take l.i l.text)) × (l.n ≡ min (value_after 0 (take l.i l.text)) number_limit)
+
+abbrev pub decreases-loop-i : goal.decreases-loop-i
+decreases-loop-i l = length l.text - l.i

@@ -1,0 +1,9 @@
+use mathlib.Core.Path.{refl}
+use native.Mathlib.Omega.{arith}
+use Rattle.worth.specs.Value.{value_of}
+use Rattle.worth.proofs.Sizes.{Sizes, value_sizes}
+use Rattle.worth.proofs.value.Goals as goal
+
+pub returns : goal.returns
+unfolding value_of
+returns c = refl
