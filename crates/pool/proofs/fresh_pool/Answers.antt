@@ -1,0 +1,7 @@
+use borrow.Author.Rules.{rules}
+use Rattle.pool.specs.Pool.{fresh_pool}
+use Rattle.pool.proofs.fresh_pool.Goals as goal
+
+pub returns : goal.returns
+unfolding fresh_pool
+returns c = rw c.empty_frame-frame.ensures
