@@ -1,7 +1,7 @@
 -- Lists made one by one: what stands in them, and what a turn of a loop adds.
 use mathlib.Core.Path.{◌≡◌, refl, sym, ◌∙◌}
 use mathlib.Core.List.{List, [], ◌∷◌, ◌++◌}
-use mathlib.Core.Bool.{Bool, true, false, ◌&&◌, and-true, and_assoc, and-eq-true_iff}
+use mathlib.Core.Bool.{true, ◌&&◌, and-true, and_assoc, and-eq-true_iff}
 use mathlib.Core.Logic.{⊎_elim, ◌⊎◌, inl, inr}
 use Prim.Native.Nat.{ℕ, zero, suc, ◌+◌, ◌-◌, ◌≤◌, ◌<◌}
 use native.Mathlib.Nat.{zero-add, eq-or-lt_of_le, eq-zero-or-pos}
@@ -12,7 +12,6 @@ use lib.Seq.{sets, get_or_at, ext_get_or}
 use lib.Dec.{eqb}
 use borrow.Author.Tests.{eqb-true, leb-true}
 use Rattle.word.proofs.Laws.{sets_append}
-use Rattle.search.specs.Search.{one_if}
 use Rattle.search.proofs.Count.{one_few}
 use Rattle.trace.specs.Layout.{up_to, is_write, writes_in, known_kind, known_kinds, all_zero}
 

@@ -1,5 +1,6 @@
 // Traces of edition 1: a header of 48 bytes, then records of 8 bytes, in either byte order.
 #![tactic(auto)]
+
 ghost use Rattle.std.specs.Prelude.{◌≡◌, ◌≤◌, ◌<◌, length};
 ghost use Rattle.std.proofs.lemmas.List.Edits.{sets};
 ghost use Rattle.search.specs.Search.{pick};
