@@ -1,10 +1,15 @@
-// Input and output files, by the number of the word that names them. What fails is told on standard error at once, since
-// errno tells of the last failure alone.
+// Input and output files, by the number of the word that names them. What fails is told on standard error at once.
 #![tactic(auto)]
+
+ghost use Rattle.std.specs.Prelude.{◌≡◌, ◌↔◌, IsTrue};
+
 pub mod spaces;
 
-use check::same;
-use libc::PATH_MAX;
+use lines::{read_full, say};
+use std::env::{Env, FillError};
+use std::fs::{File, OpenOptions};
+use std::io::{Error, ErrorKind, Read, Result, Seek, SeekFrom, Write};
+use std::{env, fs, process, str};
 
 // How a run ends.
 #[derive(Clone, Copy)]
@@ -21,77 +26,98 @@ pub struct Input {
     pub size: usize,
 }
 
-// A new file beside the output: its descriptor or -1, and how long its name is.
-#[derive(Clone, Copy)]
+// A new file beside the output, and its name.
+#[derive(Drop)]
 struct Part {
-    fd: i32,
-    size: usize,
+    file: File,
+    name: String,
 }
 
 // So many names are tried for it.
 const TRIES: u64 = 100;
 
+// The system's number for a name that is no text.
+const NO_TEXT: i32 = 84;
+
+// Whether two texts are the same.
+pub fn same(a: &[u8], b: &[u8]) -> bool
+    ensures { IsTrue result ↔ a.now ≡ b.now }
+{
+    a == b
+}
+
 // The first n bytes, or all of them where there are fewer.
 pub fn front(bytes: &[u8], n: usize) -> &[u8] {
     if n < bytes.len() {
-        return &bytes[0..n];
+        return &bytes[..n];
     }
     bytes
 }
 
-// Writes to standard error.
-pub fn tell(text: &[u8]) {
-    io::write_all(libc::STDERR_FILENO, text);
+// Writes to standard error. Where that fails there is nowhere to tell it.
+pub fn tell(rt: &HostRuntime, text: &[u8]) {
+    let _ = say(&rt.stderr(), text);
 }
 
-// Tells why the last call failed.
-pub fn failed(name: &[u8]) -> Status {
-    tell(b"hitchyawl: ");
-    os::fail(name);
+// What the system says of an error, without the number that the library puts behind it.
+fn reason(text: &str) -> &str {
+    match text.split_once(" (os error ") {
+        Some((reason, _)) => reason,
+        None => text,
+    }
+}
+
+// Where there is no memory for the text, the number is told too.
+fn tell_reason(rt: &HostRuntime, error: &Error) {
+    match format!(in rt.alloc(); "{error}") {
+        Ok(text) => tell(rt, reason(text.as_str()).as_bytes()),
+        Err(_) => {
+            let _ = rt.eprint(error);
+        }
+    }
+}
+
+// Tells why a call failed.
+pub fn failed(rt: &HostRuntime, name: &[u8], error: &Error) -> Status {
+    tell(rt, b"hitchyawl: ");
+    tell(rt, name);
+    tell(rt, b": ");
+    tell_reason(rt, error);
+    tell(rt, b"\n");
     Status::Failed
 }
 
-// Fetching a word that is there and fits sets errno to 0, and the command's name is such a word. After that errno tells
-// whether a read or a write failed, which the calls that go on until all is moved do not.
-pub fn clear_errno() {
-    let mut space = io::buffer();
-    os::arg(1, &mut space);
-}
-
-// The status after printing, which nothing but writes to standard output has followed since errno was cleared.
-pub fn printed(status: Status) -> Status {
-    if os::errno() != 0 {
-        return failed(b"standard output");
+// The status after printing.
+pub fn printed(rt: &HostRuntime, said: Result<()>, status: Status) -> Status {
+    match said {
+        Ok(()) => status,
+        Err(error) => failed(rt, b"standard output", &error),
     }
-    status
 }
 
-// Puts word i at the start of space and answers how long it is there. Of one that is too long the first bytes are taken.
-pub fn fetch(i: usize, space: &mut [u8]) -> usize {
-    let n = os::arg(i, space);
-    if os::errno() == libc::ENAMETOOLONG {
-        return space.len();
+// Puts word i at the start of space and answers how long it is there: 0 where there is none. Of one that is too long the
+// first bytes are taken.
+pub fn fetch(rt: &HostRuntime, i: usize, space: &mut [u8]) -> usize {
+    match rt.arg(i, space) {
+        Ok(n) => n,
+        Err(FillError::TooLong) => space.len(),
+        Err(FillError::NotPresent) => 0,
     }
-    n
 }
 
-// Tells what is wrong with the file that word i names, or with standard input where i is 0; errno has no reason for it.
-fn failed_word(i: usize, reason: &[u8]) -> Status {
+// Tells what is wrong with the file that word i names, or with standard input where i is 0; no call has failed.
+fn failed_word(rt: &HostRuntime, i: usize, reason: &[u8]) -> Status {
     let mut space = spaces::for_word();
-    let n = fetch(i, &mut space);
+    let n = fetch(rt, i, &mut space);
     let name = front(&space, n);
-    tell(b"hitchyawl: ");
-    if (i == 0) | same(name, b"-") {
-        tell(b"standard input");
+    tell(rt, b"hitchyawl: ");
+    if i == 0 || same(name, b"-") {
+        tell(rt, b"standard input");
     } else {
-        tell(name);
+        tell(rt, name);
     }
-    tell(reason);
+    tell(rt, reason);
     Status::Failed
-}
-
-fn too_long(i: usize) -> Status {
-    failed_word(i, b": File name too long\n")
 }
 
 fn no_input() -> Input {
@@ -102,228 +128,210 @@ fn no_input() -> Input {
 }
 
 // Reads until the space is full or the input ends.
-fn read_from(fd: i32, name: &[u8], space: &mut [u8]) -> Input {
-    clear_errno();
-    let size = io::read_full(fd, space);
-    if os::errno() != 0 {
-        failed(name);
-        return no_input();
-    }
-    Input {
-        failed: false,
-        size: size,
+fn read_from(rt: &HostRuntime, from: &mut impl Read, name: &[u8], space: &mut [u8]) -> Input {
+    match read_full(from, space) {
+        Ok(size) => Input {
+            failed: false,
+            size,
+        },
+        Err(error) => {
+            failed(rt, name, &error);
+            no_input()
+        }
     }
 }
 
-fn read_named(name: &[u8], space: &mut [u8]) -> Input {
-    if same(name, b"-") {
-        return read_from(libc::STDIN_FILENO, b"standard input", space);
+fn read_standard(rt: &HostRuntime, space: &mut [u8]) -> Input {
+    read_from(rt, &mut rt.stdin(), b"standard input", space)
+}
+
+// The file that stands in for one whose name is no text, which the library cannot open. The script `hitchyawl` makes it.
+fn stand_in(rt: &HostRuntime, i: usize) -> Result<String> {
+    let variable = format!(in rt.alloc(); "HITCHYAWL_WORD_{i}")?;
+    match env::var(rt, variable.as_str()) {
+        Ok(path) => Ok(path),
+        Err(_) => Err(Error::from_raw_os_error(NO_TEXT)),
     }
-    let fd = os::open_read(name);
-    if fd < 0 {
-        failed(name);
-        return no_input();
+}
+
+// The path of the file that word i names.
+fn path_of(rt: &HostRuntime, i: usize, name: &[u8]) -> Result<String> {
+    match str::from_utf8(name) {
+        Ok(path) => Ok(String::from_str(rt.alloc(), path)?),
+        Err(_) => stand_in(rt, i),
     }
-    let input = read_from(fd, name, space);
-    libc::close(fd);
-    input
+}
+
+fn open_word(rt: &HostRuntime, i: usize, name: &[u8]) -> Result<File> {
+    let path = path_of(rt, i, name)?;
+    File::open(rt, path.as_str())
+}
+
+fn read_named(rt: &HostRuntime, i: usize, name: &[u8], space: &mut [u8]) -> Input {
+    match open_word(rt, i, name) {
+        Ok(file) => {
+            let mut from = file;
+            read_from(rt, &mut from, name, space)
+        }
+        Err(error) => {
+            failed(rt, name, &error);
+            no_input()
+        }
+    }
 }
 
 // Reads the file that word i names, or standard input where i is 0.
-pub fn read(i: usize, space: &mut [u8]) -> Input {
+pub fn read(rt: &HostRuntime, i: usize, space: &mut [u8]) -> Input {
     if i == 0 {
-        return read_named(b"-", space);
+        return read_standard(rt, space);
     }
-    let mut name = io::buffer();
-    let n = os::arg(i, &mut name);
-    if os::errno() != 0 {
-        too_long(i);
-        return no_input();
+    let mut word = spaces::for_word();
+    let n = fetch(rt, i, &mut word);
+    let name = front(&word, n);
+    if same(name, b"-") {
+        return read_standard(rt, space);
     }
-    read_named(&name[..n], space)
+    read_named(rt, i, name, space)
 }
 
 // Reads the whole of an input. One that fills the space is too large.
-pub fn read_whole(i: usize, space: &mut [u8]) -> Input {
-    let input = read(i, space);
-    if input.failed | (input.size < space.len()) {
+pub fn read_whole(rt: &HostRuntime, i: usize, space: &mut [u8]) -> Input {
+    let input = read(rt, i, space);
+    if input.failed || input.size < space.len() {
         return input;
     }
-    failed_word(i, b": File too large\n");
+    failed_word(rt, i, b": File too large\n");
     no_input()
 }
 
 // Whether a call did its work; where it did not, that is told.
-fn done(ok: bool, name: &[u8]) -> bool {
-    if !ok {
-        failed(name);
+fn done(rt: &HostRuntime, called: Result<()>, name: &[u8]) -> Status {
+    match called {
+        Ok(()) => Status::Done,
+        Err(error) => failed(rt, name, &error),
     }
-    ok
 }
 
-// Writes to an open file and closes it.
-fn write_to(fd: i32, name: &[u8], bytes: &[u8]) -> Status {
-    if !done(io::write_all(fd, bytes), name) {
-        libc::close(fd);
-        return Status::Failed;
+// The path of the output, the process's number, from the second try on the try's, and `part`.
+fn part_name(rt: &HostRuntime, path: &str, tries: u64) -> Result<String> {
+    let id = process::id(rt.process());
+    if tries == 0 {
+        return Ok(format!(in rt.alloc(); "{path}.{id}.part")?);
     }
-    if !done(libc::close(fd) == 0, name) {
-        return Status::Failed;
-    }
-    Status::Done
+    Ok(format!(in rt.alloc(); "{path}.{id}.{tries}.part")?)
 }
 
-// Puts bytes to the text at `at` as far as there is room, and answers the place after them.
-fn append(text: &mut [u8; PATH_MAX], at: usize, bytes: &[u8]) -> usize {
-    let mut next = at;
-    let mut i: usize = 0;
-    while i < bytes.len() {
-        if PATH_MAX <= next {
-            return next;
-        }
-        text[next] = bytes[i];
-        next += 1;
-        i += 1;
-    }
-    next
-}
-
-// A dot and a number.
-fn append_number(text: &mut [u8; PATH_MAX], at: usize, n: u64) -> usize {
-    let mut digits = [0u8; 20];
-    let count = io::decimal(n, &mut digits);
-    let next = append(text, at, b".");
-    append(text, next, &digits[..count])
-}
-
-fn natural(x: i32) -> u64 {
-    if x >= 0 { x as u64 } else { 0 }
-}
-
-// The output's name, the process's number, from the second try on the try's, and `part`. A name that fills the space is
-// too long for a path, so no file is made by one that is cut.
-fn part_name(name: &[u8], tries: u64, part: &mut [u8; PATH_MAX]) -> usize {
-    let mut at = append(part, 0, name);
-    at = append_number(part, at, natural(libc::getpid()));
-    if tries != 0 {
-        at = append_number(part, at, tries);
-    }
-    append(part, at, b".part")
-}
-
-fn create(name: &[u8], tries: u64, part: &mut [u8; PATH_MAX]) -> Part {
-    let size = part_name(name, tries, part);
-    Part {
-        fd: os::create(front(part, size)),
-        size: size,
-    }
+fn create(rt: &HostRuntime, path: &str, tries: u64) -> Result<Part> {
+    let name = part_name(rt, path, tries)?;
+    let file = File::create_new(rt, name.as_str())?;
+    Ok(Part { file, name })
 }
 
 // Makes a file of a name that is not taken, as one may be by another machine's process of the same number.
-fn create_part(name: &[u8], part: &mut [u8; PATH_MAX]) -> Part {
-    let mut made = create(name, 0, part);
-    let mut tries: u64 = 1;
-    while tries < TRIES {
-        if (made.fd >= 0) | (os::errno() != libc::EEXIST) {
-            return made;
+fn create_part(rt: &HostRuntime, path: &str) -> Result<Part> {
+    for tries in 0..TRIES - 1 {
+        match create(rt, path, tries) {
+            Ok(part) => return Ok(part),
+            Err(error) => {
+                if error.kind() != ErrorKind::AlreadyExists {
+                    return Err(error);
+                }
+            }
         }
-        made = create(name, tries, part);
-        tries += 1;
     }
-    made
+    create(rt, path, TRIES - 1)
 }
 
-fn stored(fd: i32, name: &[u8], bytes: &[u8]) -> bool {
-    if !done(io::write_all(fd, bytes), name) {
-        libc::close(fd);
-        return false;
-    }
-    if !done(libc::fsync(fd) == 0, name) {
-        libc::close(fd);
-        return false;
-    }
-    done(libc::close(fd) == 0, name)
+// All of it is stored before the file is closed.
+fn stored(file: File, bytes: &[u8]) -> Result<()> {
+    let mut to = file;
+    to.write_all(bytes)?;
+    to.sync_all()
 }
 
 // The new file takes the output's name once all of it is stored.
-fn replace(name: &[u8], bytes: &[u8], fd: i32, space: &[u8; PATH_MAX], size: usize) -> Status {
-    let part = front(space, size);
-    if stored(fd, name, bytes) {
-        if done(os::rename(part, name) == 0, name) {
-            return Status::Done;
-        }
+fn replace(rt: &HostRuntime, path: &str, bytes: &[u8], part: Part) -> Result<()> {
+    let Part { file, name } = part;
+    let mut ended = stored(file, bytes);
+    if ended.is_ok() {
+        ended = fs::rename(rt, name.as_str(), path);
     }
-    os::unlink(part);
-    Status::Failed
+    if ended.is_err() {
+        let _ = fs::remove_file(rt, name.as_str());
+    }
+    ended
 }
 
 // Writes the output whole under another name and renames it, so that whoever looks sees the old file or the new one.
-fn write_whole(name: &[u8], bytes: &[u8]) -> Status {
-    let mut space = io::buffer();
-    let part = create_part(name, &mut space);
-    if part.fd < 0 {
-        return failed(name);
-    }
-    replace(name, bytes, part.fd, &space, part.size)
-}
-
-fn begins(text: &[u8], start: &[u8]) -> bool {
-    same(front(text, start.len()), start)
+fn write_whole(rt: &HostRuntime, path: &str, bytes: &[u8]) -> Result<()> {
+    let part = create_part(rt, path)?;
+    replace(rt, path, bytes, part)
 }
 
 // Whether an open file is a regular one. A pipe has no positions, and a device like /dev/null none but 0. The size of a
 // block device cannot be set; that is tried below /dev/ alone, since setting the size of a file, if to what it is, changes its time.
-fn is_regular(fd: i32, name: &[u8]) -> bool {
-    if libc::lseek(fd, 1, libc::SEEK_SET) != 1 {
-        return false;
+fn is_regular(file: &File, name: &[u8]) -> bool {
+    let mut at = file;
+    match at.seek(SeekFrom::Start(1)) {
+        Ok(1) => {}
+        _ => return false,
     }
-    if !begins(name, b"/dev/") {
+    if !name.starts_with(b"/dev/") {
         return true;
     }
-    libc::ftruncate(fd, libc::lseek(fd, 0, libc::SEEK_END)) == 0
+    match at.seek(SeekFrom::End(0)) {
+        Ok(size) => file.set_len(size).is_ok(),
+        Err(_) => false,
+    }
 }
 
 // Whether a name stands for an open descriptor, whatever is behind it.
 fn is_descriptor(name: &[u8]) -> bool {
-    begins(name, b"/dev/fd/") | begins(name, b"/dev/std") | begins(name, b"/proc/")
+    name.starts_with(b"/dev/fd/") || name.starts_with(b"/dev/std") || name.starts_with(b"/proc/")
 }
 
-// A pipe or a device is no file that another could take the place of. Opened to append, as it is here, nothing of a file is changed.
-fn write_named(name: &[u8], bytes: &[u8]) -> Status {
-    let fd = os::open_append(name);
-    if fd < 0 {
-        if os::errno() == libc::ENOENT {
-            return write_whole(name, bytes);
+// A pipe or a device is no file that another could take the place of.
+fn write_open(rt: &HostRuntime, name: &[u8], path: &str, bytes: &[u8], file: File) -> Result<()> {
+    if is_descriptor(name) || !is_regular(&file, name) {
+        let mut to = file;
+        return to.write_all(bytes);
+    }
+    write_whole(rt, path, bytes)
+}
+
+// Opened to append, as it is here, nothing of a file is changed.
+fn write_path(rt: &HostRuntime, name: &[u8], path: &str, bytes: &[u8]) -> Result<()> {
+    match OpenOptions::new().append(true).open(rt, path) {
+        Ok(file) => write_open(rt, name, path, bytes, file),
+        Err(error) => {
+            if error.kind() == ErrorKind::NotFound {
+                return write_whole(rt, path, bytes);
+            }
+            Err(error)
         }
-        return failed(name);
     }
-    if is_descriptor(name) | !is_regular(fd, name) {
-        return write_to(fd, name, bytes);
-    }
-    libc::close(fd);
-    write_whole(name, bytes)
+}
+
+fn write_named(rt: &HostRuntime, i: usize, name: &[u8], bytes: &[u8]) -> Result<()> {
+    let path = path_of(rt, i, name)?;
+    write_path(rt, name, path.as_str(), bytes)
 }
 
 // Standard output is not opened again, so that what is written to it before and after stays in its place.
-fn write_out(name: &[u8], bytes: &[u8]) -> Status {
-    if done(io::write_all(libc::STDOUT_FILENO, bytes), name) {
-        return Status::Done;
-    }
-    Status::Failed
+fn write_out(rt: &HostRuntime, name: &[u8], bytes: &[u8]) -> Status {
+    done(rt, say(rt, bytes), name)
 }
 
 // Writes the file that word i names.
-pub fn write(i: usize, bytes: &[u8]) -> Status {
-    let mut name = io::buffer();
-    let n = os::arg(i, &mut name);
-    if os::errno() != 0 {
-        return too_long(i);
+pub fn write(rt: &HostRuntime, i: usize, bytes: &[u8]) -> Status {
+    let mut word = spaces::for_word();
+    let n = fetch(rt, i, &mut word);
+    let name = front(&word, n);
+    if same(name, b"-") {
+        return write_out(rt, b"standard output", bytes);
     }
-    if same(&name[..n], b"-") {
-        return write_out(b"standard output", bytes);
+    if same(name, b"/dev/stdout") {
+        return write_out(rt, name, bytes);
     }
-    if same(&name[..n], b"/dev/stdout") {
-        return write_out(&name[..n], bytes);
-    }
-    write_named(&name[..n], bytes)
+    done(rt, write_named(rt, i, name, bytes), name)
 }
