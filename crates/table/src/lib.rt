@@ -1,6 +1,7 @@
 // A pool's frames as one table of numbers that can be lent, which a struct cannot: field after field, so that a search goes through one field.
 // Behind them it has room for guesses at where a page is, which no frame reads.
 #![tactic(auto)]
+
 ghost use Rattle.std.specs.Prelude.{◌≡◌, false, ◌%◌, ◌<◌, length, set};
 ghost use Rattle.pool.specs.Pool.{frame_at, with_count, now_at, with_dirty};
 ghost use Rattle.table.specs.Table.{table_length, frames_in, guess_place, guess_in, head_of, pool_in};

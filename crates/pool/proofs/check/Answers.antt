@@ -9,8 +9,7 @@ frames_sound-framed-requires c = (ranges _ (sym c.in_range.ensures ∙ c.if-in_r
 
 pub returns-then-in_range : goal.returns-then-in_range
 returns-then-in_range c =
-    let f = c in
-    check_ranged _ _ _ (sym f.in_range.ensures ∙ f.if-in_range.true) f.frames_sound-framed.ensures c.demanded.ensures
+    check_ranged _ _ _ (sym c.in_range.ensures ∙ c.if-in_range.true) c.frames_sound-framed.ensures c.demanded.ensures
 
 pub returns : goal.returns
 returns c = check_outside _ (sym c.in_range.ensures ∙ c.if-in_range.false)

@@ -16,20 +16,16 @@ loop-i-init c = (omega arith, refl)
 
 pub returns-then-is_enough : goal.returns-then-is_enough
 returns-then-is_enough c =
-    let b = c in
-    let l = b in
-    let e : leb l.args.most (10 * b.step_at-step.result) ≡ true = sym c.is_enough.ensures ∙ c.if-is_enough.true in (
-      first_here l.args.most l.loop-i.i b.step_at-step.result (omega arith) b.step_at-step.ensures.0 l.loop-i.invariant.1 e,
-      b.step_at-step.ensures.1,
-      b.step_at-step.ensures.2,
-      leb-true l.args.most (10 * b.step_at-step.result) e,
+    let e : leb c.args.most (10 * c.step_at-step.result) ≡ true = sym c.is_enough.ensures ∙ c.if-is_enough.true in (
+      first_here c.args.most c.loop-i.i c.step_at-step.result (omega arith) c.step_at-step.ensures.0 c.loop-i.invariant.1 e,
+      c.step_at-step.ensures.1,
+      c.step_at-step.ensures.2,
+      leb-true c.args.most (10 * c.step_at-step.result) e,
     )
 
 pub loop-i-preserved : goal.loop-i-preserved
-loop-i-preserved c =
-    let b = c in
-    let l = b in (
-      omega arith,
-      first_behind l.args.most l.loop-i.i b.step_at-step.result (omega arith) b.step_at-step.ensures.0 l.loop-i.invariant.1
-          (sym c.is_enough.ensures ∙ c.if-is_enough.false),
-    )
+loop-i-preserved c = (
+  omega arith,
+  first_behind c.args.most c.loop-i.i c.step_at-step.result (omega arith) c.step_at-step.ensures.0 c.loop-i.invariant.1
+      (sym c.is_enough.ensures ∙ c.if-is_enough.false),
+)

@@ -7,13 +7,10 @@ use Rattle.tally.proofs.counted.Goals as goal
 pub returns : goal.returns
 unfolding counted_by
 returns c =
-    let e4 = c in
-    let e3 = e4 in
-    let e2 = e3 in
     rw (
       c.one_if-5.ensures.0,
-      e4.one_if-4.ensures.0,
-      e3.one_if-3.ensures.0,
-      e2.one_if-2.ensures.0,
-      e2.one_if.ensures.0,
+      c.one_if-4.ensures.0,
+      c.one_if-3.ensures.0,
+      c.one_if-2.ensures.0,
+      c.one_if.ensures.0,
     ) refl

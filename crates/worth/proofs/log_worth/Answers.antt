@@ -14,10 +14,9 @@ loop-j-init c = (search rules, refl)
 
 pub greater-best-requires : goal.greater-best-requires
 greater-best-requires c =
-    let s = c in
     let r = c.loop-j in
-    let h = s.requires.2 in
-    let l = s.requires.1 in
+    let h = c.requires.2 in
+    let l = c.requires.1 in
     let v = r.invariant in
     let young : c.age.result ≤ reference_limit = rw c.age.ensures (age_small _ _ h) in
     let best : Small r.best = rw v.1 (small _ (worth_small _ _ _ _ (omega arith) h)) in
