@@ -1,5 +1,6 @@
 // Settings that are wished for instead of a trace's own.
 #![tactic(auto)]
+
 ghost use Rattle.std.specs.Prelude.{◌≡◌, [], ◌∷◌, ◌<◌};
 ghost use Rattle.settings.specs.Settings.{the_fields, settings_by};
 ghost use Rattle.wish.specs.Wish.{no_wish, wished_for, chosen_at, fit_fields, settings_fitting, wished_settings, usual_settings};
