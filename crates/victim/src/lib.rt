@@ -1,5 +1,6 @@
 // The replacement rules: each, in a module of its own, chooses its victim.
 #![tactic(auto)]
+
 pub mod clock;
 pub mod lru;
 pub mod watt;

@@ -1,0 +1,17 @@
+use Rattle.std.proofs.Common.{sym, refl, ◌∙◌}
+use Rattle.settings.proofs.Laws.{ranges}
+use Rattle.pool.specs.declared.Pool.{Pool}
+use Rattle.pool.proofs.Sound.{told}
+use Rattle.table.specs.Table.{pool_in}
+use Rattle.victim.proofs.clock.Sweeping.{way_swept, way_pinned}
+use Rattle.victim.proofs.clock.choose.Goals as goal
+
+pub any_unpinned-free-requires : goal.any_unpinned-free-requires
+any_unpinned-free-requires c = (ranges _ (told _ c.requires).settings).frames.1
+
+pub returns-in-At : goal.returns-in-At
+returns-in-At c =
+    way_swept (pool_in c.args.h c.args.table.now c.args.access.now c.args.write.now) _ _ (sym c.any_unpinned-free.ensures ∙ c.in-At.is) c.sweep.ensures
+
+pub returns-in-Nothing : goal.returns-in-Nothing
+returns-in-Nothing c = way_pinned _ _ (sym c.any_unpinned-free.ensures ∙ c.in-Nothing.is) refl
