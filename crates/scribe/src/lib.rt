@@ -1,5 +1,6 @@
 // The writer and the converter of traces.
 #![tactic(auto)]
+
 ghost use Rattle.std.specs.Prelude.{◌≡◌, ◌+◌, ◌≤◌, length};
 ghost use Rattle.std.proofs.lemmas.List.Edits.{sets};
 ghost use Rattle.trace.specs.Layout.{record_limit, header_length, file_length, known_kinds, writes_in, trace_from};
