@@ -1,6 +1,7 @@
 // LRU's misses at every pool size, from one pass over a trace: the pages most recently used stand on a stack, and each use tells how many stand
 // above its page. No pool is needed.
 #![tactic(auto)]
+
 ghost use Rattle.std.specs.Prelude.{◌≡◌, ◌≤◌, ◌<◌, length, take};
 ghost use Rattle.std.proofs.lemmas.List.Edits.{sets};
 ghost use Rattle.search.specs.ForCode.{past};
