@@ -1,14 +1,13 @@
 -- An entry: reading what was written, and writing what was read.
 use mathlib.Core.Path.{◌≡◌, refl, ap, sym, ◌∙◌}
-use mathlib.Core.Bool.{Bool, true, false, ◌&&◌}
+use mathlib.Core.Bool.{Bool, true, false}
 use mathlib.Core.List.{List, [], ◌∷◌, ◌++◌, append_assoc, append-nil}
 use Prim.Native.Nat.{ℕ, zero, suc, ◌+◌, ◌*◌, ◌^◌, ◌≤◌, ◌<◌}
 use native.Mathlib.Nat.{add_assoc, add-zero}
-use native.Mathlib.Numerals.{add-one}
 use native.Mathlib.Omega.{arith}
-use lib.ListN.{length, get_or, take, drop, length-append, length-drop, get_or-eq_default}
+use lib.ListN.{length, get_or, take, drop, length-append, length-drop}
 use lib.Seq.{drop-drop, take_at, length-take-le}
-use lib.Dec.{eqb, leb}
+use lib.Dec.{eqb}
 use borrow.Author.Tests.{le-leb}
 use Rattle.word.specs.Number.{number_at, number_of, bytes_of}
 use Rattle.word.specs.declared.Order.{Order}
@@ -23,7 +22,7 @@ use Rattle.trace.proofs.Lists.{up_to_is}
 use Rattle.pool.specs.declared.Frame.{Frame}
 use Rattle.pool.specs.declared.Pool.{Pool}
 use Rattle.pool.specs.Pool.{frame_at}
-use Rattle.entry.specs.Entry.{words_at, page_in, last_in, pins_in, count_in, dirty_in, accesses_in, writes_in, zero_in, access_in, write_in, entry_fits, frame_in, word_bytes, field_bytes, access_of, write_of, entry_bytes}
+use Rattle.entry.specs.Entry.{words_at, page_in, pins_in, count_in, dirty_in, accesses_in, writes_in, zero_in, access_in, write_in, entry_fits, frame_in, word_bytes, field_bytes, access_of, write_of, entry_bytes}
 use Rattle.entry.proofs.Laws.{words_append, length_words}
 
 -- numbers of 4 bytes
