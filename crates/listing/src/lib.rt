@@ -1,7 +1,8 @@
 // What is printed of a trace and of its replay: the trace's settings and counts; the sheet; the listing, its rows, the
 // pages that were written, the pool that is left, and the counts; and the pool of an image.
 #![tactic(auto)]
-ghost use Rattle.std.specs.Prelude.{◌≡◌, ◌+◌, ◌<◌, ◌≤◌, length};
+
+ghost use Rattle.std.specs.Prelude.{◌≡◌, ◌+◌, ◌<◌, ◌≤◌, length, IfOk};
 ghost use Rattle.trace.specs.Check.{check_of, number_of_answer};
 ghost use Rattle.pool.specs.Pool.{fresh_of};
 ghost use Rattle.image.specs.Image.{image_of};
@@ -15,6 +16,7 @@ use lines::{
 use pool::{Frame, Pool};
 use replay::Ended;
 use settings::Settings;
+use std::io::Result;
 use tally::Tally;
 use trace::{Checked, Summary};
 use word::Order;
@@ -60,195 +62,195 @@ fn kept(count: usize, places: usize) -> usize
     if count < places { count } else { places }
 }
 
-fn say_rows(rows: &[u32; ROWS], count: u32) {
-    say_line(b"rows", count as u64);
-    say_table(rows, kept(count as usize * 4, ROWS), 4);
+fn say_rows(out: &impl Print, rows: &[u32; ROWS], count: u32) -> Result<()> {
+    say_line(out, b"rows", count as u64)?;
+    say_table(out, rows, kept(count as usize * 4, ROWS), 4)
 }
 
-fn say_written(written: &[u32; WRITTEN], count: u32) {
-    say_line(b"written", count as u64);
-    say_table(written, kept(count as usize, WRITTEN), 1);
+fn say_written(out: &impl Print, written: &[u32; WRITTEN], count: u32) -> Result<()> {
+    say_line(out, b"written", count as u64)?;
+    say_table(out, written, kept(count as usize, WRITTEN), 1)
 }
 
-fn say_fields(fr: Frame) {
-    say_first(fr.page as u64);
-    say_bool(fr.dirty);
-    say_number(fr.pins as u64);
-    say_number(fr.count as u64);
-    say_number(fr.last as u64);
+fn say_fields(out: &impl Print, fr: Frame) -> Result<()> {
+    say_first(out, fr.page as u64)?;
+    say_bool(out, fr.dirty)?;
+    say_number(out, fr.pins as u64)?;
+    say_number(out, fr.count as u64)?;
+    say_number(out, fr.last as u64)
 }
 
 // The log of n entries in the `room` places from `at` on, newest first.
-fn say_log(l: &[u32], at: usize, room: usize, n: u8)
+fn say_log(out: &impl Print, l: &[u32], at: usize, room: usize, n: u8) -> Result<()>
     requires { at + room ≤ length l.now }
 {
-    say(b" :");
-    say_places(l, at, kept(n as usize, room));
+    say(out, b" :")?;
+    say_places(out, l, at, kept(n as usize, room))
 }
 
 // The frames in use. The logs are lent from here, so that the pool is not copied for each frame.
-fn say_frames(p: Pool) {
-    let mut i: usize = 0;
-    while i < 128 {
+fn say_frames(out: &impl Print, p: Pool) -> Result<()> {
+    for i in 0..128 {
         let fr = p.frames[i];
         if fr.used {
-            say_fields(fr);
-            say_log(&p.access, i * 8, 8, fr.accesses);
-            say_log(&p.write, i * 4, 4, fr.writes);
-            say(b"\n");
+            say_fields(out, fr)?;
+            say_log(out, &p.access, i * 8, 8, fr.accesses)?;
+            say_log(out, &p.write, i * 4, 4, fr.writes)?;
+            say(out, b"\n")?;
         }
-        i += 1;
     }
+    Ok(())
 }
 
-fn say_pool(p: Pool) {
-    say(b"pool");
-    say_number(p.k as u64);
-    say_number(p.hand as u64);
-    say_number(p.sampler as u64);
-    say(b"\n");
-    say_line(b"frames", image::used_frames(p) as u64);
-    say_frames(p);
+fn say_pool(out: &impl Print, p: Pool) -> Result<()> {
+    say(out, b"pool")?;
+    say_number(out, p.k as u64)?;
+    say_number(out, p.hand as u64)?;
+    say_number(out, p.sampler as u64)?;
+    say(out, b"\n")?;
+    say_line(out, b"frames", image::used_frames(p) as u64)?;
+    say_frames(out, p)
 }
 
 // The first n letters. They come by value, so that their number is known.
-fn say_letters(letters: [u8; 16], n: usize)
+fn say_letters(out: &impl Print, letters: [u8; 16], n: usize) -> Result<()>
     requires { n ≤ 16 }
 {
-    say(&letters[0..n]);
+    say(out, &letters[0..n])
 }
 
 // The line of a rule's name.
-fn say_policy(rule: u16) {
+fn say_policy(out: &impl Print, rule: u16) -> Result<()> {
     let name = victim::name_of(rule);
     let letters = name.bytes;
-    say(b"policy ");
-    say_letters(letters, name.length);
-    say(b"\n");
+    say(out, b"policy ")?;
+    say_letters(out, letters, name.length)?;
+    say(out, b"\n")
 }
 
 // A count by its name, in the order of the counts.
-fn say_count(i: usize, n: u64) {
+fn say_count(out: &impl Print, i: usize, n: u64) -> Result<()> {
     match i {
-        0 => say_line(b"hits", n),
-        1 => say_line(b"misses", n),
-        2 => say_line(b"evictions", n),
-        3 => say_line(b"batches", n),
-        4 => say_line(b"written", n),
-        _ => say_line(b"refused", n),
+        0 => say_line(out, b"hits", n),
+        1 => say_line(out, b"misses", n),
+        2 => say_line(out, b"evictions", n),
+        3 => say_line(out, b"batches", n),
+        4 => say_line(out, b"written", n),
+        _ => say_line(out, b"refused", n),
     }
 }
 
-fn say_counts(t: Tally) {
+fn say_counts(out: &impl Print, t: Tally) -> Result<()> {
     let l = tally::numbers(t);
-    let mut i: usize = 0;
-    while i < tally::COUNTS {
-        say_count(i, l[i] as u64);
-        i += 1;
+    for i in 0..tally::COUNTS {
+        say_count(out, i, l[i] as u64)?;
     }
+    Ok(())
 }
 
 // The sheet of a replay to counts.
-pub fn say_sheet(settings: Settings, records: u32, tally: Tally) {
-    say_policy(settings.rule);
-    say_line(b"frames", settings.frames as u64);
-    say_line(b"records", records as u64);
-    say_counts(tally);
+pub fn say_sheet(out: &impl Print, settings: Settings, records: u32, tally: Tally) -> Result<()> {
+    say_policy(out, settings.rule)?;
+    say_line(out, b"frames", settings.frames as u64)?;
+    say_line(out, b"records", records as u64)?;
+    say_counts(out, tally)
 }
 
-fn say_settings(s: Settings) {
-    say_policy(s.rule);
-    say_line(b"frames", s.frames as u64);
-    say_line(b"batch", s.batch as u64);
-    say_line(b"cap", s.cap as u64);
-    say_line(b"sample", s.sample as u64);
-    say_line(b"weight", s.weight as u64);
-    say_line(b"epoch", s.span as u64);
-    say_line(b"seed", s.seed as u64);
+fn say_settings(out: &impl Print, s: Settings) -> Result<()> {
+    say_policy(out, s.rule)?;
+    say_line(out, b"frames", s.frames as u64)?;
+    say_line(out, b"batch", s.batch as u64)?;
+    say_line(out, b"cap", s.cap as u64)?;
+    say_line(out, b"sample", s.sample as u64)?;
+    say_line(out, b"weight", s.weight as u64)?;
+    say_line(out, b"epoch", s.span as u64)?;
+    say_line(out, b"seed", s.seed as u64)
 }
 
-fn say_order_line(order: Order) {
-    say(b"order");
-    say_order(order);
-    say(b"\n");
+fn say_order_line(out: &impl Print, order: Order) -> Result<()> {
+    say(out, b"order")?;
+    say_order(out, order)?;
+    say(out, b"\n")
 }
 
-fn say_summary(summary: Summary, writes: u32) {
+fn say_summary(out: &impl Print, summary: Summary, writes: u32) -> Result<()> {
     let order = summary.order;
-    say_order_line(order);
+    say_order_line(out, order)?;
     let settings = summary.settings;
-    say_settings(settings);
-    say_line(b"records", summary.count as u64);
-    say_line(b"writes", writes as u64);
+    say_settings(out, settings)?;
+    say_line(out, b"records", summary.count as u64)?;
+    say_line(out, b"writes", writes as u64)
 }
 
 // Prints what a trace is, or that it is refused, and answers the refusal or 0.
-pub fn inspect(bytes: &[u8]) -> u32
-    ensures { result ≡ number_of_answer (check_of bytes.now) }
+pub fn inspect(out: &impl Print, bytes: &[u8]) -> Result<u32>
+    ensures { IfOk result (λ answer. answer ≡ number_of_answer (check_of bytes.now)) }
 {
     let c = trace::check(bytes);
-    match c {
+    let answer = match c {
         Checked::Refused(r) => {
-            say_refused(r);
+            say_refused(out, r)?;
             r
         }
         Checked::Accepted(summary) => {
-            say_summary(summary, trace::writes(bytes, summary));
+            say_summary(out, summary, trace::writes(bytes, summary))?;
             0
         }
-    }
+    };
+    Ok(answer)
 }
 
 // Prints the order of an image and the pool that it holds, or that it is refused, and answers the refusal or 0.
-pub fn inspect_image(bytes: &[u8]) -> u32
-    ensures { result ≡ (image_of bytes.now).refusal }
+pub fn inspect_image(out: &impl Print, bytes: &[u8]) -> Result<u32>
+    ensures { IfOk result (λ answer. answer ≡ (image_of bytes.now).refusal) }
 {
     let opened = image::read(bytes);
     if opened.refusal != 0 {
-        say_image_refused(opened.refusal);
-        return opened.refusal;
+        say_image_refused(out, opened.refusal)?;
+        return Ok(opened.refusal);
     }
     let pool = opened.pool;
     let settings = pool.settings;
-    say_order_line(image::order_of(bytes));
-    say_settings(settings);
-    say_pool(pool);
-    opened.refusal
+    say_order_line(out, image::order_of(bytes))?;
+    say_settings(out, settings)?;
+    say_pool(out, pool)?;
+    Ok(opened.refusal)
 }
 
 // Replays a trace and prints its sheet, or that it is refused.
-pub fn sheet(pool: Pool, tally: Tally, bytes: &[u8]) -> Ended
-    ensures { result ≡ counts_of pool tally bytes.now }
+pub fn sheet(out: &impl Print, pool: Pool, tally: Tally, bytes: &[u8]) -> Result<Ended>
+    ensures { IfOk result (λ ended. ended ≡ counts_of pool tally bytes.now) }
 {
     let ended = replay::counts(pool, tally, bytes);
     if ended.refusal != 0 {
-        say_refused(ended.refusal);
-        return ended;
+        say_refused(out, ended.refusal)?;
+        return Ok(ended);
     }
     let after = ended.pool;
     let settings = after.settings;
-    say_sheet(settings, count_of(bytes), ended.tally);
-    ended
+    say_sheet(out, settings, count_of(bytes), ended.tally)?;
+    Ok(ended)
 }
 
 // Replays a trace and prints its listing, or that it is refused. The lists hold what any replay needs, so none is refused by 13, and the
 // answer is that of a replay to counts.
-pub fn list(pool: Pool, tally: Tally, bytes: &[u8]) -> Ended
-    ensures { result ≡ counts_of pool tally bytes.now }
+pub fn list(out: &impl Print, pool: Pool, tally: Tally, bytes: &[u8]) -> Result<Ended>
+    ensures { IfOk result (λ ended. ended ≡ counts_of pool tally bytes.now) }
 {
     let mut rows = [0u32; ROWS];
     let mut written = [0u32; WRITTEN];
     let ended = replay::replay(pool, tally, bytes, &mut rows, &mut written);
     if ended.refusal != 0 {
-        say_refused(ended.refusal);
-        return ended;
+        say_refused(out, ended.refusal)?;
+        return Ok(ended);
     }
-    say_rows(&rows, count_of(bytes));
+    say_rows(out, &rows, count_of(bytes))?;
     say_written(
+        out,
         &written,
-        std::num::wrapping_sub_u32(ended.tally.written, tally.written),
-    );
-    say_pool(ended.pool);
-    say_counts(ended.tally);
-    ended
+        ended.tally.written.wrapping_sub(tally.written),
+    )?;
+    say_pool(out, ended.pool)?;
+    say_counts(out, ended.tally)?;
+    Ok(ended)
 }

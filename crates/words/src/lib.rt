@@ -1,12 +1,13 @@
 // The words that the program is started with, as what they ask for.
 #![tactic(auto)]
+
 pub mod help;
 pub mod names;
 
-use check::same;
-use files::{fetch, front, spaces, tell};
+use files::{fetch, front, same, spaces, tell};
 use names::{Command, Flag};
 use numeral::Numeral;
+use std::env::{Env, FillError};
 use wish::Wish;
 use word::Order;
 
@@ -177,14 +178,12 @@ fn is_rule(word: &[u8], rule: u16) -> bool {
 
 // The rule of this name, or the number of rules where none has it.
 fn rule_named(word: &[u8]) -> u16 {
-    let mut rule: u16 = 0;
-    while rule < RULES {
+    for rule in 0..RULES {
         if is_rule(word, rule) {
             return rule;
         }
-        rule += 1;
     }
-    rule
+    RULES
 }
 
 fn with_rule(r: Request, i: usize, word: &[u8]) -> Request {
@@ -253,9 +252,9 @@ fn is_flag(word: &[u8]) -> bool {
     word[0] == b'-'
 }
 
-fn with_word(r: Request, i: usize) -> Request {
+fn with_word(rt: &HostRuntime, r: Request, i: usize) -> Request {
     let mut space = spaces::for_word();
-    let n = fetch(i, &mut space);
+    let n = fetch(rt, i, &mut space);
     let word = front(&space, n);
     if r.waits != 0 {
         return with_value(r, i, word);
@@ -267,29 +266,29 @@ fn with_word(r: Request, i: usize) -> Request {
 }
 
 // Whether word i is there and names no file, but standard input or output.
-fn is_standard(i: usize) -> bool {
+fn is_standard(rt: &HostRuntime, i: usize) -> bool {
     if i == 0 {
         return false;
     }
     let mut space = spaces::for_word();
-    let n = fetch(i, &mut space);
+    let n = fetch(rt, i, &mut space);
     same(front(&space, n), b"-")
 }
 
 // The faults of files that are named rightly, but that cannot be read or written beside each other.
-fn together(r: Request) -> Request {
+fn together(rt: &HostRuntime, r: Request) -> Request {
     let first = r.files[0];
-    if is_standard(r.from) & ((first == 0) | is_standard(first)) {
+    if is_standard(rt, r.from) && (first == 0 || is_standard(rt, first)) {
         return faulty(r, Fault::InputTwice, r.from);
     }
-    if is_standard(r.save) {
+    if is_standard(rt, r.save) {
         return faulty(r, Fault::OutputTaken, r.save);
     }
     r
 }
 
 // The faults that show once all words are read.
-fn whole(r: Request) -> Request {
+fn whole(rt: &HostRuntime, r: Request) -> Request {
     let command = r.command;
     let taken = names::taken_by(command);
     if r.waits != 0 {
@@ -302,37 +301,45 @@ fn whole(r: Request) -> Request {
         let last = r.files[1];
         return faulty(r, Fault::TooManyFiles, last);
     }
-    together(r)
+    together(rt, r)
 }
 
-fn with_rest(begun: Request) -> Request {
-    let count = os::arg_count();
-    let mut r = begun;
-    let mut i: usize = 2;
-    while i < count {
-        r = with_word(r, i);
-        i += 1;
+// How many words there are, with the program's own name.
+fn word_count(rt: &HostRuntime) -> usize {
+    for i in 0..usize::MAX {
+        match rt.arg(i, &mut []) {
+            Err(FillError::NotPresent) => return i,
+            _ => {}
+        }
     }
-    whole(r)
+    usize::MAX
 }
 
-fn without_command(r: Request) -> Request {
-    if os::arg_count() < 2 {
+fn with_rest(rt: &HostRuntime, begun: Request) -> Request {
+    let mut r = begun;
+    for i in 2..word_count(rt) {
+        r = with_word(rt, r, i);
+    }
+    whole(rt, r)
+}
+
+fn without_command(rt: &HostRuntime, r: Request) -> Request {
+    if word_count(rt) < 2 {
         return faulty(r, Fault::NoCommand, 0);
     }
     faulty(r, Fault::UnknownCommand, 1)
 }
 
 // What the words ask for, or what is wrong with them.
-pub fn read() -> Request {
+pub fn read(rt: &HostRuntime) -> Request {
     let mut space = spaces::for_word();
-    let n = fetch(1, &mut space);
+    let n = fetch(rt, 1, &mut space);
     let word = front(&space, n);
     let command = names::command_named(word);
     let r = bare(command, names::is_help(word));
     match command {
-        Command::Unknown => without_command(r),
-        _ => with_rest(r),
+        Command::Unknown => without_command(rt, r),
+        _ => with_rest(rt, r),
     }
 }
 
@@ -343,37 +350,37 @@ pub fn order_of(r: Request) -> Order {
     Order::High
 }
 
-fn tell_word(i: usize) {
+fn tell_word(rt: &HostRuntime, i: usize) {
     let mut space = spaces::for_word();
-    let n = fetch(i, &mut space);
-    tell(front(&space, n));
-    tell(b": ");
+    let n = fetch(rt, i, &mut space);
+    tell(rt, front(&space, n));
+    tell(rt, b": ");
 }
 
-fn tell_reason(fault: Fault) {
+fn tell_reason(rt: &HostRuntime, fault: Fault) {
     match fault {
-        Fault::Nothing => tell(b"nothing is wrong\n"),
-        Fault::NoCommand => tell(b"no command is given\n"),
-        Fault::UnknownCommand => tell(b"no such command\n"),
-        Fault::UnknownOption => tell(b"no such option\n"),
-        Fault::OptionNotTaken => tell(b"not an option of this command\n"),
-        Fault::NoValue => tell(b"the option's value is missing\n"),
-        Fault::NoNumber => tell(b"not a number\n"),
-        Fault::NoRule => tell(b"no such rule\n"),
-        Fault::NoOrder => tell(b"no such order, high or low\n"),
-        Fault::TooFewFiles => tell(b"a file is missing\n"),
-        Fault::TooManyFiles => tell(b"one file too many\n"),
-        Fault::InputTwice => tell(b"standard input is named twice\n"),
-        Fault::OutputTaken => tell(b"standard output is taken\n"),
+        Fault::Nothing => tell(rt, b"nothing is wrong\n"),
+        Fault::NoCommand => tell(rt, b"no command is given\n"),
+        Fault::UnknownCommand => tell(rt, b"no such command\n"),
+        Fault::UnknownOption => tell(rt, b"no such option\n"),
+        Fault::OptionNotTaken => tell(rt, b"not an option of this command\n"),
+        Fault::NoValue => tell(rt, b"the option's value is missing\n"),
+        Fault::NoNumber => tell(rt, b"not a number\n"),
+        Fault::NoRule => tell(rt, b"no such rule\n"),
+        Fault::NoOrder => tell(rt, b"no such order, high or low\n"),
+        Fault::TooFewFiles => tell(rt, b"a file is missing\n"),
+        Fault::TooManyFiles => tell(rt, b"one file too many\n"),
+        Fault::InputTwice => tell(rt, b"standard input is named twice\n"),
+        Fault::OutputTaken => tell(rt, b"standard output is taken\n"),
     }
 }
 
 // The line that says what is wrong with the words.
-pub fn tell_fault(r: Request) {
+pub fn tell_fault(rt: &HostRuntime, r: Request) {
     let fault = r.fault;
-    tell(b"hitchyawl: ");
+    tell(rt, b"hitchyawl: ");
     if r.place != 0 {
-        tell_word(r.place);
+        tell_word(rt, r.place);
     }
-    tell_reason(fault);
+    tell_reason(rt, fault);
 }

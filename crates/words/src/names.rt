@@ -1,5 +1,5 @@
 // The names of the commands and of their options, and what each command takes.
-use check::same;
+use files::same;
 
 #[derive(Clone, Copy)]
 pub enum Command {
