@@ -1,9 +1,14 @@
 // For timing: reads the image on standard input and writes it again, a hundred thousand times, each time with another
 // sampler number, and prints the sum of what was refused.
 #![tactic(auto)]
+
 ghost use Rattle.std.specs.Prelude.{◌≤◌, length};
 
+use std::io::Result;
 use word::Order;
+
+// The most bytes of an image.
+const INPUT_ROOM: usize = 65536;
 
 const TURNS: u32 = 100000;
 
@@ -14,29 +19,26 @@ fn turn(bytes: &mut [u8], out: &mut [u8], i: u32) -> u32
     word::put32(bytes, 56, Order::Low, i);
     let opened = image::read(bytes);
     let refusal = image::write(opened.pool, Order::Low, out);
-    std::num::wrapping_add_u32(opened.refusal, refusal)
+    opened.refusal.wrapping_add(refusal)
 }
 
 fn turns(bytes: &mut [u8], out: &mut [u8]) -> u32
     requires { 64 ≤ length bytes.old }
 {
     let mut sum: u32 = 0;
-    let mut i: u32 = 0;
-    while i < TURNS {
-        sum = std::num::wrapping_add_u32(sum, turn(bytes, out, i));
-        i += 1;
+    for i in 0..TURNS {
+        sum = sum.wrapping_add(turn(bytes, out, i));
     }
     sum
 }
 
-fn main() {
-    let mut space = io::large_buffer();
+fn main(rt: HostRuntime) -> Result<()> {
+    let mut space = [0u8; INPUT_ROOM];
     let mut out = [0u8; image::BYTE_LIMIT];
-    let size = io::read_full(libc::STDIN_FILENO, &mut space);
+    let size = lines::read_full(&mut rt.stdin(), &mut space)?;
     if size < image::HEADER_LENGTH {
-        lines::say(b"no image\n");
-        return;
+        return lines::say(&rt, b"no image\n");
     }
-    let bytes = &mut space[0..size];
-    lines::say_line(b"refused", turns(bytes, &mut out) as u64);
+    let bytes = &mut space[..size];
+    lines::say_line(&rt, b"refused", turns(bytes, &mut out) as u64)
 }

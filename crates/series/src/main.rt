@@ -2,9 +2,18 @@
 // with the high byte first, and goes on from the pool and the tally of the one before. The first trace starts from a fresh
 // pool and a tally of zeros, and so does the one after a length of 0, for which `anew` is printed.
 #![tactic(auto)]
+
+use lines::read_full;
 use pool::Pool;
+use std::io::{Read, Result};
 use tally::Tally;
 use word::Order;
+
+// The most bytes of a trace.
+const INPUT_ROOM: usize = 65536;
+
+// The most traces of a series.
+const TURNS: u32 = 100000;
 
 // What the next trace goes on from; where nothing is present, it starts afresh.
 #[derive(Clone, Copy)]
@@ -31,26 +40,26 @@ fn started(bytes: &[u8]) -> State {
 }
 
 // A refused trace hands pool and tally back as they were.
-fn replayed(from: State, bytes: &[u8]) -> State {
-    let ended = listing::list(from.pool, from.tally, bytes);
+fn replayed(out: &impl Print, from: State, bytes: &[u8]) -> Result<State> {
+    let ended = listing::list(out, from.pool, from.tally, bytes)?;
     let pool = ended.pool;
     let tally = ended.tally;
-    State {
+    Ok(State {
         present: from.present | (ended.refusal == 0),
         pool: pool,
         tally: tally,
-    }
+    })
 }
 
-fn worked(before: State, item: &[u8]) -> State {
+fn worked(out: &impl Print, before: State, item: &[u8]) -> Result<State> {
     if item.len() == 0 {
-        lines::say(b"anew\n");
-        return started(item);
+        lines::say(out, b"anew\n")?;
+        return Ok(started(item));
     }
     if before.present {
-        return replayed(before, item);
+        return replayed(out, before, item);
     }
-    replayed(started(item), item)
+    replayed(out, started(item), item)
 }
 
 fn stopped(state: State) -> Turn {
@@ -61,38 +70,42 @@ fn stopped(state: State) -> Turn {
 }
 
 // Works the next item, once all of it is read; stops where it is not whole or does not fit the space.
-fn next_item(before: State, space: &mut [u8]) -> Turn {
+fn next_item(
+    out: &impl Print,
+    from: &mut impl Read,
+    before: State,
+    space: &mut [u8],
+) -> Result<Turn> {
     let mut head = [0u8; 4];
-    if io::read_full(libc::STDIN_FILENO, &mut head) < 4 {
-        return stopped(before);
+    if read_full(from, &mut head)? < 4 {
+        return Ok(stopped(before));
     }
     let size = word::get32(&head, 0, Order::High) as usize;
     if space.len() < size {
-        return stopped(before);
+        return Ok(stopped(before));
     }
-    let item = &mut space[0..size];
-    if io::read_full(libc::STDIN_FILENO, item) < size {
-        return stopped(before);
+    let item = &mut space[..size];
+    if read_full(from, item)? < size {
+        return Ok(stopped(before));
     }
-    let after = worked(before, item);
-    Turn {
+    let after = worked(out, before, item)?;
+    Ok(Turn {
         whole: true,
         state: after,
-    }
+    })
 }
 
 // The turns are counted, since nothing says that the input ends.
-fn main() {
-    let mut buffer = io::large_buffer();
-    let space: &mut [u8] = &mut buffer;
+fn main(rt: HostRuntime) -> Result<()> {
+    let mut space = [0u8; INPUT_ROOM];
+    let mut input = rt.stdin();
     let mut state = started(b"");
-    let mut turns: u32 = 0;
-    while turns < 100000 {
-        let t = next_item(state, space);
+    for _ in 0..TURNS {
+        let t = next_item(&rt, &mut input, state, &mut space)?;
         if !t.whole {
-            return;
+            return Ok(());
         }
         state = t.state;
-        turns += 1;
     }
+    Ok(())
 }

@@ -1,37 +1,42 @@
 // Hands each case of a bundle on standard input to the checker, the reader, the writer or the converter, and prints a line
 // with the answer and digests of all lent memory. traces/make writes the bundle, says how it is laid out, and knows the lines.
 #![tactic(auto)]
+
 ghost use Rattle.std.specs.Prelude.{◌≡◌, ◌+◌, ◌*◌, ◌≤◌, ◌<◌, length};
 
-use lines::{say, say_number, say_order};
+use lines::{read_full, say, say_number, say_order};
 use settings::Settings;
+use std::io::{Read, Result};
 use trace::Checked;
 use word::Order;
 
-fn say_settings(s: Settings) {
-    say_number(s.rule as u64);
-    say_number(s.frames as u64);
-    say_number(s.batch as u64);
-    say_number(s.cap as u64);
-    say_number(s.sample as u64);
-    say_number(s.weight as u64);
-    say_number(s.span as u64);
-    say_number(s.seed as u64);
+// The most cases of a bundle.
+const TURNS: u32 = 1000;
+
+fn say_settings(out: &impl Print, s: Settings) -> Result<()> {
+    say_number(out, s.rule as u64)?;
+    say_number(out, s.frames as u64)?;
+    say_number(out, s.batch as u64)?;
+    say_number(out, s.cap as u64)?;
+    say_number(out, s.sample as u64)?;
+    say_number(out, s.weight as u64)?;
+    say_number(out, s.span as u64)?;
+    say_number(out, s.seed as u64)
 }
 
-fn say_checked(c: Checked) {
+fn say_checked(out: &impl Print, c: Checked) -> Result<()> {
     match c {
         Checked::Refused(r) => {
-            say(b" refused");
-            say_number(r as u64);
+            say(out, b" refused")?;
+            say_number(out, r as u64)
         }
         Checked::Accepted(h) => {
-            say(b" accepted");
+            say(out, b" accepted")?;
             let order = h.order;
-            say_order(order);
+            say_order(out, order)?;
             let settings = h.settings;
-            say_settings(settings);
-            say_number(h.count as u64);
+            say_settings(out, settings)?;
+            say_number(out, h.count as u64)
         }
     }
 }
@@ -54,30 +59,24 @@ fn kind(k: u16) -> u32 {
 
 fn digest_bytes(s: &[u8; 64064]) -> u64 {
     let mut h: u64 = 1;
-    let mut i: usize = 0;
-    while i < 64064 {
+    for i in 0..64064 {
         h = mixed(h, byte(s[i]));
-        i += 1;
     }
     h
 }
 
 fn digest_pages(s: &[u32; 8001]) -> u64 {
     let mut h: u64 = 1;
-    let mut i: usize = 0;
-    while i < 8001 {
+    for i in 0..8001 {
         h = mixed(h, s[i]);
-        i += 1;
     }
     h
 }
 
 fn digest_kinds(s: &[u16; 8001]) -> u64 {
     let mut h: u64 = 1;
-    let mut i: usize = 0;
-    while i < 8001 {
+    for i in 0..8001 {
         h = mixed(h, kind(s[i]));
-        i += 1;
     }
     h
 }
@@ -101,41 +100,40 @@ fn kinds_to_lend() -> [u16; 8001]
     [7u16; 8001]
 }
 
-fn try_check(body: &[u8]) {
-    say(b"check");
-    say_checked(trace::check(body));
+fn try_check(out: &impl Print, body: &[u8]) -> Result<()> {
+    say(out, b"check")?;
+    say_checked(out, trace::check(body))
 }
 
-fn try_read(body: &[u8], pages_room: usize, kinds_room: usize) {
+fn try_read(out: &impl Print, body: &[u8], pages_room: usize, kinds_room: usize) -> Result<()> {
     let mut pages = pages_to_lend();
     let mut kinds = kinds_to_lend();
-    if pages_room <= 8001 {
-        if kinds_room <= 8001 {
-            say(b"read");
-            say_checked(trace::read(body, &mut pages[0..pages_room], &mut kinds[0..kinds_room]));
-        }
+    if pages_room <= 8001 && kinds_room <= 8001 {
+        say(out, b"read")?;
+        say_checked(
+            out,
+            trace::read(body, &mut pages[..pages_room], &mut kinds[..kinds_room]),
+        )?;
     }
-    say_number(digest_pages(&pages));
-    say_number(digest_kinds(&kinds));
+    say_number(out, digest_pages(&pages))?;
+    say_number(out, digest_kinds(&kinds))
 }
 
-fn try_convert(body: &[u8], room: usize) {
-    let mut out = bytes_to_lend();
+fn try_convert(out: &impl Print, body: &[u8], room: usize) -> Result<()> {
+    let mut lent = bytes_to_lend();
     if room <= 64064 {
-        say(b"convert");
-        say_number(scribe::convert(body, &mut out[0..room]) as u64);
+        say(out, b"convert")?;
+        say_number(out, scribe::convert(body, &mut lent[0..room]) as u64)?;
     }
-    say_number(digest_bytes(&out));
+    say_number(out, digest_bytes(&lent))
 }
 
 // The pages of a write case, n numbers of 4 bytes from `at`.
 fn take_pages(body: &[u8], at: usize, n: usize, pages: &mut [u32])
     requires { (at + 4 * n ≤ length body.now) × (n ≤ length pages.old) }
 {
-    let mut i: usize = 0;
-    while i < n {
+    for i in 0..n {
         pages[i] = word::get32(body, at + 4 * i, Order::High);
-        i += 1;
     }
 }
 
@@ -143,10 +141,8 @@ fn take_pages(body: &[u8], at: usize, n: usize, pages: &mut [u32])
 fn take_kinds(body: &[u8], at: usize, n: usize, kinds: &mut [u16])
     requires { (at + 2 * n ≤ length body.now) × (n ≤ length kinds.old) }
 {
-    let mut i: usize = 0;
-    while i < n {
+    for i in 0..n {
         kinds[i] = word::get16(body, at + 2 * i, Order::High);
-        i += 1;
     }
 }
 
@@ -164,77 +160,73 @@ fn write_lists(body: &[u8], pages: &[u32], kinds: &[u16], out: &mut [u8]) -> u32
 }
 
 // A write case of p pages and k kinds, all there.
-fn try_lists(body: &[u8], p: usize, k: usize, room: usize)
+fn try_lists(out: &impl Print, body: &[u8], p: usize, k: usize, room: usize) -> Result<()>
     requires { (32 + 4 * p + 2 * k ≤ length body.now) × (p ≤ 8001) × (k ≤ 8001) × (room ≤ 64064) }
 {
     let mut pages = pages_to_lend();
     let mut kinds = kinds_to_lend();
-    let mut out = bytes_to_lend();
+    let mut lent = bytes_to_lend();
     take_pages(body, 32, p, &mut pages);
     take_kinds(body, 32 + 4 * p, k, &mut kinds);
-    say(b"write");
-    say_number(write_lists(body, &pages[0..p], &kinds[0..k], &mut out[0..room]) as u64);
-    say_number(digest_bytes(&out));
+    say(out, b"write")?;
+    say_number(
+        out,
+        write_lists(body, &pages[0..p], &kinds[0..k], &mut lent[0..room]) as u64,
+    )?;
+    say_number(out, digest_bytes(&lent))
 }
 
-fn try_write(body: &[u8], room: usize) {
+fn try_write(out: &impl Print, body: &[u8], room: usize) -> Result<()> {
     if body.len() < 32 {
-        return;
+        return Ok(());
     }
     let p = word::get32(body, 24, Order::High) as usize;
     let k = word::get32(body, 28, Order::High) as usize;
-    if p <= 8001 {
-        if k <= 8001 {
-            if 32 + 4 * p + 2 * k <= body.len() {
-                if room <= 64064 {
-                    try_lists(body, p, k, room);
-                }
-            }
-        }
+    if p <= 8001 && k <= 8001 && 32 + 4 * p + 2 * k <= body.len() && room <= 64064 {
+        return try_lists(out, body, p, k, room);
     }
+    Ok(())
 }
 
-fn try_case(op: u32, body: &[u8], room: usize, other_room: usize) {
+fn try_case(out: &impl Print, op: u32, body: &[u8], room: usize, other_room: usize) -> Result<()> {
     match op {
-        1 => try_check(body),
-        2 => try_read(body, room, other_room),
-        3 => try_write(body, room),
-        4 => try_convert(body, room),
-        _ => say(b"unknown"),
+        1 => try_check(out, body)?,
+        2 => try_read(out, body, room, other_room)?,
+        3 => try_write(out, body, room)?,
+        4 => try_convert(out, body, room)?,
+        _ => say(out, b"unknown")?,
     }
-    say(b"\n");
+    say(out, b"\n")
 }
 
 // Whether there was a case: its head, and its body in `body`.
-fn next_case(body: &mut [u8]) -> bool {
+fn next_case(out: &impl Print, from: &mut impl Read, body: &mut [u8]) -> Result<bool> {
     let mut head = [0u8; 16];
-    if io::read_full(libc::STDIN_FILENO, &mut head) < 16 {
-        return false;
+    if read_full(from, &mut head)? < 16 {
+        return Ok(false);
     }
     let op = word::get32(&head, 0, Order::High);
     let size = word::get32(&head, 4, Order::High) as usize;
     let room = word::get32(&head, 8, Order::High) as usize;
     let other_room = word::get32(&head, 12, Order::High) as usize;
     if body.len() < size {
-        return false;
+        return Ok(false);
     }
-    let part = &mut body[0..size];
-    if io::read_full(libc::STDIN_FILENO, part) < size {
-        return false;
+    let part = &mut body[..size];
+    if read_full(from, part)? < size {
+        return Ok(false);
     }
-    try_case(op, part, room, other_room);
-    true
+    try_case(out, op, part, room, other_room)?;
+    Ok(true)
 }
 
-fn main() {
+fn main(rt: HostRuntime) -> Result<()> {
     let mut space = bytes_to_lend();
-    let body: &mut [u8] = &mut space;
-    let mut turns: u32 = 0;
-    while turns < 1000 {
-        if next_case(body) {
-            turns += 1;
-        } else {
-            return;
+    let mut input = rt.stdin();
+    for _ in 0..TURNS {
+        if !next_case(&rt, &mut input, &mut space)? {
+            return Ok(());
         }
     }
+    Ok(())
 }
