@@ -9,11 +9,11 @@ use native.Mathlib.Numerals.{add-one}
 use native.Mathlib.Omega.{arith}
 use lib.Dec.{eqb}
 use lib.ListN.{length, get_or, take, drop, length-append, length-drop, drop_of_length-le}
-use lib.Seq.{length-take-le, take_all, take-suc, drop-cons, drop-drop, take-append_seam, drop-append_seam}
+use lib.Seq.{length-take-le, take_all, take-suc, drop-cons, drop-drop}
 use Rattle.search.specs.Search.{pick}
 use Rattle.refusal.specs.Refusals.{or_else}
 use Rattle.text.specs.declared.Line.{Line}
-use Rattle.text.specs.Text.{line_feed, remark, begins_with, is_passed, line_of, before, lines_of, lines_in, is_bad, first_bad, numbers_in}
+use Rattle.text.specs.Text.{line_feed, remark, begins_with, is_passed, line_of, lines_of, lines_in, is_bad, first_bad, numbers_in}
 use Rattle.text.specs.ForCode.{first_line, line_end}
 
 -- ---- words

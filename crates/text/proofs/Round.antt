@@ -1,23 +1,22 @@
 -- Reading the lines of records gives the records.
 use mathlib.Core.Path.{◌≡◌, refl, sym, ap, ◌∙◌}
-use mathlib.Core.Bool.{Bool, true, false, not, ◌&&◌, and-true, and-eq-true_iff}
+use mathlib.Core.Bool.{Bool, true, false, not, ◌&&◌, and-eq-true_iff}
 use mathlib.Core.List.{List, [], ◌∷◌, ◌++◌, map, map-append, append_assoc}
 use Prim.Native.Nat.{ℕ, zero, suc, ◌+◌, ◌*◌, ◌-◌, ◌/◌, ◌%◌, ◌^◌, ◌≤◌, ◌<◌, min}
-use native.Mathlib.Nat.{pow-suc, mod-lt, zero-add}
+use native.Mathlib.Nat.{pow-suc, mod-lt}
 use native.Mathlib.Omega.{arith}
-use lib.Dec.{eqb, ltb, leb}
-use lib.ListN.{length, get_or, take, drop, length-append}
-use borrow.Author.Tests.{lt-ltb, le-leb, ltb-true, eqb-true, ne_eqb}
+use lib.Dec.{eqb, leb}
+use lib.ListN.{length, get_or}
+use borrow.Author.Tests.{lt-ltb, le-leb, ne_eqb}
 use Rattle.io.specs.Digits.{hex_digit_ascii, last_digits}
-use Rattle.search.specs.Search.{pick}
 use Rattle.numeral.specs.Numeral.{number_limit, is_digit, all_digits, value_after, numeral_of}
-use Rattle.numeral.specs.declared.Numeral.TheVariants.{Number, NoNumber}
+use Rattle.numeral.specs.declared.Numeral.TheVariants.{Number}
 use Rattle.numeral.proofs.Laws.{all_snoc, value_snoc}
 use Rattle.trace.specs.Layout.{Trace, up_to}
 use Rattle.trace.specs.Encode.{Proper}
 use Rattle.trace.proofs.Lists.{up_to_is, known_le}
 use Rattle.text.specs.declared.Line.{Line}
-use Rattle.text.specs.declared.Line.TheVariants.{Passed, Record, Bad}
+use Rattle.text.specs.declared.Line.TheVariants.{Record}
 use Rattle.text.specs.Text.{line_feed, word_of, record_line, line_of, before, lines_of, lines_in, first_bad, numbers_in, page_of, kind_of, pages_in, kinds_in, places, decimal_of, line_text, text_to, text_of, ReadsAs}
 use Rattle.text.proofs.Decimal.{length_digits, places_hold}
 

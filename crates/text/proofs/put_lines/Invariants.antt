@@ -1,0 +1,15 @@
+use mathlib.Core.Path.{◌≡◌}
+use Prim.Native.Nat.{◌*◌, ◌≤◌, ◌-◌}
+use lib.ListN.{length}
+use lib.Seq.{sets}
+use Rattle.trace.specs.Check.{trace_of}
+use Rattle.text.specs.Text.{line_room, text_to}
+use Rattle.text.proofs.put_lines.Given as goal
+
+abbrev pub invariant-loop-i : goal.invariant-loop-i
+invariant-loop-i l = (l.i ≤ l.n) × (l.at ≤ line_room * l.i) × (length l.out ≡ length l.initial.out)
+    × (l.at ≡ length (text_to (trace_of l.bytes).pages (trace_of l.bytes).kinds l.i))
+    × (l.out ≡ sets l.initial.out 0 (text_to (trace_of l.bytes).pages (trace_of l.bytes).kinds l.i))
+
+abbrev pub decreases-loop-i : goal.decreases-loop-i
+decreases-loop-i l = l.n - l.i
