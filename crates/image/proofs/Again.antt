@@ -1,36 +1,33 @@
 -- Writing what was read gives the bytes again.
-use mathlib.Core.Path.{◌≡◌, refl, ap, sym, ◌∙◌}
-use mathlib.Core.Bool.{true, false}
-use mathlib.Core.List.{List, [], ◌∷◌, ◌++◌, append_assoc, append-nil}
+use mathlib.Core.Path.{◌≡◌, refl, ap, ◌∙◌}
+use mathlib.Core.Bool.{true}
+use mathlib.Core.List.{List, ◌++◌, append_assoc, append-nil}
 use mathlib.Core.Logic.{⊎_elim, ◌⊎◌, inl, inr}
 use Prim.Native.Nat.{ℕ, zero, suc, ◌+◌, ◌-◌, ◌*◌, ◌≤◌, ◌<◌}
 use native.Mathlib.Nat.{eq-zero-or-pos}
 use native.Mathlib.Omega.{arith}
-use lib.ListN.{length, get_or, take, drop, replicate, length-replicate, get_or-replicate, get_or-eq_default}
+use lib.ListN.{length, take, drop, replicate, length-replicate, get_or-replicate, get_or-eq_default}
 use lib.Seq.{sets, length-sets, take_all, get_or-append-add, get_or-drop}
 use borrow.Author.Tests.{eqb-true}
 use Rattle.word.specs.declared.Order.{Order}
 use Rattle.word.proofs.Laws.{Bytes, number_at_lt}
 use Rattle.search.proofs.Every.{every_at}
 use Rattle.search.proofs.Count.{count_lowest}
-use Rattle.refusal.specs.Refusals.{or_else}
 use Rattle.refusal.proofs.Laws.{neither}
 use Rattle.settings.specs.Settings.{settings_bytes, settings_at}
 use Rattle.settings.proofs.Places.{join_is, join, settings_join}
-use Rattle.trace.specs.Encode.{mark_bytes}
 use Rattle.trace.proofs.Again.{mark_again}
 use Rattle.pool.specs.declared.Frame.{Frame}
 use Rattle.pool.specs.declared.Pool.{Pool}
-use Rattle.pool.specs.declared.Opened.{Opened}
 use Rattle.pool.specs.Pool.{frame_room, empty_frame, frame_at, fresh_pool, opened}
 use Rattle.pool.specs.Sound.{sound_pool, pool_refusal}
 use Rattle.pool.proofs.ByFrame.{passed_sound}
 use Rattle.entry.specs.Run.{run_of}
-use Rattle.entry.specs.Entry.{entry_length, zero_in, dirty_in, frame_in, access_in, write_in, access_of, write_of, entry_bytes}
+use Rattle.entry.specs.Entry.{entry_length, zero_in, frame_in, access_in, write_in, access_of, write_of, entry_bytes}
 use Rattle.entry.proofs.Run.{run_none, run_more, run_length, run_at, one_at, front_run}
 use Rattle.entry.proofs.Laws.{fitting}
 use Rattle.entry.proofs.Round.{entry_again}
-use Rattle.image.specs.Layout.{image_edition, image_header, image_length, edition_at, zero_at6, used_at, offset_at, entry_length_at, length_at, settings_in, zero_at44, k_at, hand_at, zero_at54, sampler_at, zero_at60, pool_to, pool_at, used_in, header_bytes, encode_pool}
+use Rattle.image.specs.Layout.{image_edition, image_header, image_length, used_at, settings_in, pool_to, pool_at, used_in, header_bytes, encode_pool}
 use Rattle.image.specs.Image.{entry_zero, entry_held, held_refusal, order_of, pool_of, image_refusal, image_of, Typed}
 use Rattle.image.proofs.Laws.{Held, holds_marked, opened_number, frame_run, access_run, write_run, length_access, length_write}
 

@@ -4,26 +4,23 @@ use mathlib.Core.Bool.{Bool, true, false}
 use mathlib.Core.List.{List, [], ◌∷◌, ◌++◌, append_assoc, append-nil}
 use mathlib.Core.Logic.{⊎_elim, ◌⊎◌, inl, inr}
 use Prim.Native.Nat.{ℕ, ◌+◌, ◌-◌, ◌*◌, ◌/◌, ◌%◌, ◌≤◌, ◌<◌}
-use native.Mathlib.Nat.{div-le_self, eq-zero-or-pos, le_trans}
+use native.Mathlib.Nat.{div-le_self, eq-zero-or-pos}
 use native.Mathlib.Omega.{arith}
 use lib.ListN.{length, get_or, take, drop, replicate, length-append, length-drop, length-replicate, get_or-replicate, take-append-drop, get_or-eq_default}
 use lib.Seq.{sets, drop-append-add, length-take-le, get_or-take, get_or-drop}
 use lib.Dec.{ltb}
 use borrow.Author.Tests.{eq-eqb, le-leb, lt-ltb, le-ltb}
-use Rattle.word.specs.Number.{number_at, number_of, bytes_of}
+use Rattle.word.specs.Number.{number_of, bytes_of}
 use Rattle.word.specs.declared.Order.{Order}
 use Rattle.word.specs.declared.Order.TheVariants.{High, Low}
 use Rattle.word.proofs.Laws.{number_back}
-use Rattle.search.specs.Search.{every_below}
 use Rattle.search.proofs.Every.{every_of}
 use Rattle.search.proofs.Count.{count_few, lowest_count}
-use Rattle.settings.specs.declared.Settings.{Settings}
 use Rattle.settings.specs.Settings.{settings_bytes}
 use Rattle.settings.proofs.Laws.{ranges}
 use Rattle.settings.proofs.Places.{settings_back}
 use Rattle.trace.specs.declared.Mark.TheVariants.{Known}
 use Rattle.trace.specs.Layout.{mark_of}
-use Rattle.limit.specs.Limits.{reference_limit}
 use Rattle.pool.specs.declared.Frame.{Frame}
 use Rattle.pool.specs.declared.Pool.{Pool}
 use Rattle.pool.specs.Pool.{frame_room, empty_frame, frame_at, fresh_pool, opened, last_epoch_of}
@@ -31,11 +28,11 @@ use Rattle.pool.specs.Sound.{sound_pool, pool_refusal}
 use Rattle.pool.proofs.Sound.{Logged, Sound, told}
 use Rattle.pool.proofs.Sizes.{Sized}
 use Rattle.entry.specs.Run.{run_of}
-use Rattle.entry.specs.Entry.{entry_length, access_of, write_of, entry_bytes}
+use Rattle.entry.specs.Entry.{entry_length, entry_bytes}
 use Rattle.entry.proofs.Run.{run_length, run_at, run_same, run_parts, run_ones, rest_same, front_stored}
 use Rattle.entry.proofs.Round.{Words, Narrow, ReadsAs, entry_back}
 use Rattle.image.specs.Layout.{image_edition, image_header, image_length, edition_at, zero_at6, used_at, offset_at, entry_length_at, length_at, settings_in, zero_at44, k_at, hand_at, zero_at54, sampler_at, zero_at60, pool_to, pool_at, used_in, front_bytes, back_bytes, header_bytes, encode_pool}
-use Rattle.image.specs.Image.{entry_zero, entry_held, layout_refusal, content_refusal, held_refusal_in, held_refusal, order_of, pool_of, image_refusal, image_of, Typed}
+use Rattle.image.specs.Image.{entry_zero, entry_held, layout_refusal, content_refusal, held_refusal_in, held_refusal, pool_of, image_refusal, image_of, Typed}
 use Rattle.image.proofs.Laws.{order_is, frame_run, access_run, write_run, length_front, length_header, length_entry}
 
 -- ---- the header

@@ -1,40 +1,38 @@
 -- Laws that the functions of an image cite.
 use mathlib.Core.Path.{◌≡◌, refl, ap, sym, ◌∙◌}
-use mathlib.Core.Bool.{Bool, true, false, ◌&&◌, and-false, and-eq-true_iff}
-use mathlib.Core.List.{List, [], ◌∷◌, ◌++◌, append_assoc}
+use mathlib.Core.Bool.{true, false, ◌&&◌, and-false, and-eq-true_iff}
+use mathlib.Core.List.{List, [], ◌∷◌, ◌++◌}
 use Prim.Native.Nat.{ℕ, zero, suc, ◌+◌, ◌*◌, ◌≤◌, ◌<◌}
 use native.Mathlib.Omega.{arith}
-use lib.ListN.{length, get_or, take, drop, length-append, length-drop, get_or-eq_default}
-use lib.Seq.{sets, length-sets, length-take-le}
+use lib.ListN.{length, get_or, length-append, get_or-eq_default}
+use lib.Seq.{sets, length-sets}
 use lib.Dec.{eqb, leb}
 use borrow.Author.Tests.{eqb-true, leb-true, le-leb, lt-leb}
-use Rattle.word.specs.Number.{number_at, bytes_of}
+use Rattle.word.specs.Number.{number_at}
 use Rattle.word.specs.declared.Order.{Order}
-use Rattle.word.specs.declared.Order.TheVariants.{High, Low}
 use Rattle.word.proofs.Laws.{sets_append, length_bytes}
 use Rattle.search.specs.Search.{every_below}
 use Rattle.search.proofs.Every.{every_at}
-use Rattle.refusal.specs.Refusals.{demand, or_else, stored, bad_field, not_sound, other_edition, wrong_length, too_short, no_room}
+use Rattle.refusal.specs.Refusals.{demand, or_else, bad_field, not_sound, other_edition, wrong_length, too_short, no_room}
 use Rattle.refusal.proofs.Laws.{met, or_first, neither, unstored}
 use Rattle.settings.specs.Settings.{one_frame, settings_bytes}
 use Rattle.settings.proofs.Places.{length_settings}
 use Rattle.trace.specs.declared.Mark.{Mark}
 use Rattle.trace.specs.declared.Mark.TheVariants.{Known, Unknown}
 use Rattle.trace.specs.Layout.{mark_high, mark_low, begins, mark_of}
-use Rattle.trace.specs.Check.{order_marked}
 use Rattle.trace.proofs.Lists.{length_up_to}
 use Rattle.trace.proofs.Sizes.{length_mark}
 use Rattle.pool.specs.declared.Frame.{Frame}
 use Rattle.pool.specs.declared.Pool.{Pool}
 use Rattle.pool.specs.declared.Opened.{Opened}
-use Rattle.pool.specs.Pool.{frame_room, frame_at, fresh_pool, empty_frame, opened}
+use Rattle.pool.specs.Pool.{frame_room, frame_at, fresh_pool, opened}
 use Rattle.pool.specs.Sound.{pool_refusal}
 use Rattle.pool.proofs.Sizes.{Sized}
 use Rattle.entry.specs.Run.{run_of}
-use Rattle.entry.specs.Entry.{entry_length, frame_in, access_in, write_in, words_at, word_bytes, field_bytes, access_of, write_of, entry_bytes, zero_in, entry_fits}
+use Rattle.entry.specs.Entry.{entry_length, frame_in, access_in, write_in, words_at, word_bytes, field_bytes, access_of, write_of, entry_bytes, entry_fits}
 use Rattle.entry.proofs.Run.{run_stored}
 use Rattle.entry.proofs.Round.{length_fields, length_log}
-use Rattle.image.specs.Layout.{image_edition, image_header, image_length, edition_at, zero_at6, used_at, offset_at, entry_length_at, length_at, zero_at44, zero_at54, zero_at60, pool_to, pool_at, used_in, front_bytes, back_bytes, header_bytes, encode_pool}
+use Rattle.image.specs.Layout.{image_edition, image_header, image_length, edition_at, zero_at6, used_at, offset_at, entry_length_at, length_at, zero_at44, zero_at54, zero_at60, pool_to, used_in, front_bytes, back_bytes, header_bytes, encode_pool}
 use Rattle.image.specs.Image.{lengths_right, layout_refusal, header_zeros, entry_zero, entry_held, content_refusal, held_refusal_in, held_refusal_marked, held_refusal, order_of, pool_of, opened_or, held_of, image_refusal, image_of, saving_refusal, SavedTo}
 
 -- ---- what the demands tell

@@ -1,0 +1,17 @@
+use lib.ListN.{length}
+use borrow.Author.Tests.{lt-leb, le-leb}
+use Rattle.image.specs.Layout.{image_header}
+use Rattle.image.specs.Image.{held_refusal}
+use Rattle.image.proofs.held_refusal.Goals as goal
+
+pub returns-then-bytes-lt-HEADER_LENGTH : goal.returns-then-bytes-lt-HEADER_LENGTH
+unfolding held_refusal
+returns-then-bytes-lt-HEADER_LENGTH c = rw (lt-leb image_header (length c.args.bytes.now) c.if-bytes-lt-HEADER_LENGTH.true)
+
+pub returns-in-Known : goal.returns-in-Known
+unfolding held_refusal
+returns-in-Known c = rw (le-leb _ _ c.if-bytes-lt-HEADER_LENGTH.false, ← c.mark_of-m.ensures, c.in-Known.is) c.held_refusal_in.ensures
+
+pub returns-in-Unknown : goal.returns-in-Unknown
+unfolding held_refusal
+returns-in-Unknown c = rw (le-leb _ _ c.if-bytes-lt-HEADER_LENGTH.false, ← c.mark_of-m.ensures, c.in-Unknown.is)
