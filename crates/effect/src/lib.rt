@@ -1,5 +1,6 @@
 // What one record does to a pool: its row, the pages written, and the pool afterwards.
 #![tactic(auto)]
+
 ghost use Rattle.std.specs.Prelude.{◌≡◌, true, ◌+◌, ◌<◌, ◌≤◌, length, set};
 ghost use Rattle.search.specs.Search.{pick};
 ghost use Rattle.limit.specs.Limits.{reference_limit};
