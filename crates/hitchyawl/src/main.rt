@@ -1,46 +1,43 @@
-// The bench's commands for a person at a shell: the words say what is done to which file. `main` returns nothing, so the
-// status goes to descriptor 3 as a digit.
+// The bench's commands for a person at a shell: the words say what is done to which file, and the status how it ended.
 #![tactic(auto)]
+
 mod carry;
 mod sizes;
 mod work;
 
 use files::Status;
+use std::process::ExitCode;
 use words::names::Command;
 use words::{Request, help};
 
-// Where whoever started the program reads its status.
-const STATUS_FILENO: i32 = 3;
-
-fn tell_status(status: Status) {
+fn status_code(status: Status) -> ExitCode {
     match status {
-        Status::Done => io::write_all(STATUS_FILENO, b"0"),
-        Status::Refused => io::write_all(STATUS_FILENO, b"1"),
-        Status::WrongWords => io::write_all(STATUS_FILENO, b"2"),
-        Status::Failed => io::write_all(STATUS_FILENO, b"3"),
-    };
+        Status::Done => ExitCode::from(0),
+        Status::Refused => ExitCode::from(1),
+        Status::WrongWords => ExitCode::from(2),
+        Status::Failed => ExitCode::from(3),
+    }
 }
 
-fn explain(command: Command) -> Status {
-    files::clear_errno();
-    help::say_help(command);
-    files::printed(Status::Done)
+fn explain(rt: &HostRuntime, command: Command) -> Status {
+    files::printed(rt, help::say_help(rt, command), Status::Done)
 }
 
 // Does what is asked, unless help is asked for or a word is wrong.
-fn answer(request: Request) -> Status {
+fn answer(rt: &HostRuntime, request: Request) -> Status {
     let command = request.command;
     if request.help {
-        return explain(command);
+        return explain(rt, command);
     }
     if words::is_wrong(request) {
-        words::tell_fault(request);
-        help::tell_usage(command);
+        words::tell_fault(rt, request);
+        help::tell_usage(rt, command);
         return Status::WrongWords;
     }
-    work::run(request)
+    work::run(rt, request)
 }
 
-fn main() {
-    tell_status(answer(words::read()));
+fn main(rt: HostRuntime) -> ExitCode {
+    let request = words::read(&rt);
+    status_code(answer(&rt, request))
 }
