@@ -1,5 +1,6 @@
 // The single step, replay with rows, and replay to counts.
 #![tactic(auto)]
+
 ghost use Rattle.std.specs.Prelude.{◌≡◌, true, ◌+◌, ◌≤◌, length};
 ghost use Rattle.refusal.specs.Refusals.{demand, no_room, other_settings};
 ghost use Rattle.settings.specs.Settings.{same_settings};
