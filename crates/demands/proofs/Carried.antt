@@ -1,10 +1,8 @@
 -- The pool is carried over midnight.
 use mathlib.Core.Path.{◌≡◌, refl, ap, sym, subst, ◌∙◌}
 use mathlib.Core.List.{List}
-use mathlib.Core.Logic.{◌↔◌}
 use Prim.Native.Nat.{ℕ, zero, suc}
 use native.Mathlib.Omega.{arith}
-use lib.ListN.{length}
 use Rattle.word.specs.declared.Order.{Order}
 use Rattle.word.proofs.Laws.{bytes_of_lem}
 use Rattle.refusal.specs.Refusals.{demand, or_else, not_sound, other_settings}
@@ -18,10 +16,9 @@ use Rattle.pool.specs.declared.Opened.{Opened}
 use Rattle.image.specs.Image.{SavedTo, Typed}
 use Rattle.image.proofs.Undo.{save_read}
 use Rattle.tally.specs.declared.Tally.{Tally}
-use Rattle.replay.specs.declared.Stepped.{Stepped}
 use Rattle.replay.specs.declared.Ended.{Ended}
-use Rattle.replay.specs.Replay.{Played, replay_of, joined, gone_on}
-use Rattle.replay.specs.Calls.{StepInto, may_begin, counts_refusal, ended_of, counts_of, ReplayInto}
+use Rattle.replay.specs.Replay.{replay_of, joined, gone_on}
+use Rattle.replay.specs.Calls.{may_begin, counts_refusal, ended_of, counts_of}
 use Rattle.replay.proofs.Joined.{joined_replay}
 use Rattle.rename.specs.Sameness.{AreBytes}
 use Rattle.demands.specs.Carried.{reloaded, ServesAs, Carried}

@@ -24,7 +24,7 @@ use Rattle.pool.proofs.Sizes.{Sized}
 use Rattle.reference.specs.Search.{find_page, unused, lowest_unused}
 use Rattle.reference.specs.Reference.{hit_at, fetched_at}
 use Rattle.reference.proofs.Keeps.{find_only, find_used, find_absent, none_unused}
-use Rattle.victim.specs.Choice.{Choice, unpinned, left_by}
+use Rattle.victim.specs.Choice.{Choice, left_by}
 use Rattle.victim.specs.Lru.{lru_choice}
 use Rattle.victim.specs.Rules.{choice_of}
 use Rattle.victim.proofs.Rules.{choice_by, choice_owes, choice_serves}

@@ -1,44 +1,41 @@
 -- The image of the renamed pool is the image with its pages renamed, and the demand holds from images.
-use mathlib.Core.Path.{◌≡◌, refl, ap, sym, subst, ◌∙◌}
-use mathlib.Core.Bool.{Bool, true, false}
-use mathlib.Core.List.{List, [], ◌∷◌, ◌++◌, append_assoc, append-nil, map}
+use mathlib.Core.Path.{◌≡◌, refl, ap, sym, ◌∙◌}
+use mathlib.Core.Bool.{Bool, true}
+use mathlib.Core.List.{List, [], ◌∷◌, ◌++◌, append_assoc, append-nil}
 use mathlib.Core.Logic.{⊎_elim, ◌⊎◌, inl, inr}
 use Prim.Native.Nat.{ℕ, zero, suc, ◌+◌, ◌-◌, ◌*◌, ◌≤◌, ◌<◌}
 use native.Mathlib.Nat.{eq-zero-or-pos}
 use native.Mathlib.Omega.{arith}
-use lib.ListN.{length, get_or, take, drop, length-append, length-map, length-drop, take-append-drop, get_or-eq_default}
-use lib.Seq.{sets, sets-eq, take_at, drop_at, drop-drop, drop-append-le, drop-append-add, drop-length}
+use lib.ListN.{length, take, drop, length-append, length-map, take-append-drop, get_or-eq_default}
+use lib.Seq.{sets, sets-eq, take_at, drop-drop, drop-append-le, drop-append-add, drop-length}
 use Rattle.word.specs.Number.{bytes_of}
 use Rattle.word.specs.declared.Order.{Order}
 use Rattle.word.specs.declared.Order.TheVariants.{High, Low}
 use Rattle.word.proofs.Laws.{bytes_of_lem, length_bytes}
-use Rattle.search.specs.Search.{among}
 use Rattle.search.proofs.Among.{among_second}
 use Rattle.search.proofs.Count.{count_cong}
-use Rattle.trace.specs.Check.{refusal_of, trace_of}
+use Rattle.trace.specs.Check.{trace_of}
 use Rattle.pool.specs.declared.Frame.{Frame}
 use Rattle.pool.specs.declared.Pool.{Pool}
 use Rattle.pool.specs.declared.Opened.{Opened}
-use Rattle.pool.specs.Pool.{frame_at, empty_frame, with_page, opened}
+use Rattle.pool.specs.Pool.{frame_at, empty_frame, with_page}
 use Rattle.refusal.specs.Refusals.{stored}
 use Rattle.pool.specs.Sound.{sound_pool, pool_refusal}
 use Rattle.pool.proofs.Sound.{told, made}
-use Rattle.pool.proofs.Sizes.{Sized}
 use Rattle.entry.specs.Run.{run_of}
 use Rattle.entry.specs.Entry.{page_in, frame_in, field_bytes, entry_bytes}
 use Rattle.entry.proofs.Run.{run_none, run_more, run_length, run_at}
-use Rattle.image.specs.Layout.{image_length, used_at, used_in, header_bytes, encode_pool}
+use Rattle.image.specs.Layout.{image_length, used_in, header_bytes, encode_pool}
 use Rattle.image.specs.Image.{order_of, image_of, saving_refusal, Typed}
 use Rattle.image.proofs.Laws.{order_is, length_header, length_entry}
 use Rattle.image.proofs.Back.{used_few, in_use_lem, entry, mark, used_back, sizes, image_back}
 use Rattle.image.proofs.Undo.{read_encodes, read_sound, read_typed}
-use Rattle.tally.specs.declared.Tally.{Tally}
 use Rattle.replay.specs.Replay.{replay_of}
 use Rattle.replay.specs.Calls.{counts_of}
-use Rattle.rename.specs.Renamed.{held_page, renamed_frame, renamed_pool, renamed_bytes, renamed_played}
-use Rattle.rename.specs.Sameness.{resident_pages, pages_together, Renames, Given}
-use Rattle.rename.specs.Images.{pages_set, renamed_image, SavedDemand, WrittenDemand, LoadedDemand, FromImage, ImageDemand, StepFromImage}
-use Rattle.rename.proofs.Frames.{frame_renamed, page_renamed}
+use Rattle.rename.specs.Renamed.{held_page, renamed_frame, renamed_pool, renamed_bytes}
+use Rattle.rename.specs.Sameness.{resident_pages, Renames, Given}
+use Rattle.rename.specs.Images.{pages_set, renamed_image, SavedDemand, WrittenDemand, LoadedDemand, ImageDemand, StepFromImage}
+use Rattle.rename.proofs.Frames.{frame_renamed}
 use Rattle.rename.proofs.Pages.{residents_listed}
 use Rattle.rename.proofs.Sound.{sound_renamed, pages_fit}
 use Rattle.rename.proofs.Sameness.{only_sameness}

@@ -9,7 +9,6 @@ use Rattle.pool.specs.Sound.{sound_pool}
 use Rattle.pool.proofs.Sound.{told, made}
 use Rattle.tally.specs.declared.Row.{Row}
 use Rattle.tally.specs.declared.Tally.{Tally}
-use Rattle.tally.specs.Rows.{row}
 use Rattle.tally.specs.Tally.{counted_by}
 use Rattle.effect.specs.Record.{Did, record_of}
 use Rattle.replay.specs.declared.Stepped.{Stepped}

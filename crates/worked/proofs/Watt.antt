@@ -1,6 +1,6 @@
 -- Worked by hand: pools of four frames whose draws name 1, 2 and 3.
 use mathlib.Core.Path.{◌≡◌, refl}
-use mathlib.Core.Bool.{true, false}
+use mathlib.Core.Bool.{true}
 use mathlib.Core.List.{◌∷◌}
 use Prim.Native.Nat.{ℕ, ◌+◌, ◌/◌}
 use lib.ListN.{set, replicate}
