@@ -16,41 +16,18 @@ expect_output() { # FILE COMMAND...
     "${@:2}" | cmp - "$1" || { echo "$0: $1 is not what this prints: ${*:2}" >&2; exit 1; }
 }
 
-# The crates of the repository that some crates see.
-below() { # NAME...
-    local name used
-    for name; do
-        for used in $(sed -n "s/#.*//; s/^$name://p" crates.txt); do
-            if [ -d "crates/$used" ]; then echo "$used"; fi
-        done
-    done | sort -u
-}
-
-# Proved crates for this machine: what rt makes of them where this machine can run that, else the same modules, proved as
-# they are built for this machine's processor.
+# Proved programs. rt runs what it builds: with nothing on standard input, and where a program takes words, for its help.
 build_programs() { # NAME...
-    local name job jobs=()
-    if [ "$(uname -m)" = x86_64 ]; then
-        quietly rt check "$@"
-        for name; do cp "target/bin/$name" target/native; done
-        return
-    fi
-    quietly rt check $(below "$@")
+    local name
     for name; do
-        quietly tools/native bin "$name" "target/native/$name" &
-        jobs+=($!)
+        (cd "crates/$name" && quietly rt run -- --help </dev/null)
+        cp "crates/$name/out/$name" target/native
     done
-    for job in "${jobs[@]}"; do wait "$job"; done
 }
 
 build_host() { # to libhost.a
-    if [ "$(uname -m)" = x86_64 ]; then
-        quietly rt staticlib host
-        cp target/staticlib/libhost.a target/native
-        return
-    fi
-    quietly rt check $(below host)
-    quietly tools/native lib host target/native/libhost.a
+    (cd crates/host_c && quietly rt lib)
+    cp crates/host_c/out/libhost_c.a target/native/libhost.a
 }
 
 build_over_host() { # NAME, of tests/NAME.c
