@@ -16,9 +16,8 @@ use Rattle.trace.specs.Layout.{Trace, trace_from, file_length, record_limit}
 use Rattle.trace.specs.Encode.{encode}
 use Rattle.trace.specs.declared.Checked.TheVariants.{Accepted}
 use Rattle.trace.specs.declared.Checked.TheVariants.{Refused as Checked-as-Refused}
-use Rattle.trace.specs.Check.{summary_of, refusal_of, trace_of, check_of, decode}
+use Rattle.trace.specs.Check.{summary_of, refusal_of, trace_of, check_of}
 use Rattle.trace.proofs.Accept.{accepted, refused_is}
-use Rattle.trace.specs.Check.Outcome.{Whole}
 use Rattle.trace.proofs.Whole.{proper, length_trace, decode_whole}
 use Rattle.scribe.specs.Write.{write_refusal, WrittenTo, ReadsBack}
 use Rattle.tally.specs.declared.Tally.{Tally}

@@ -1,5 +1,5 @@
 -- The table of the day: its sizes, and the numbers of a line.
-use Rattle.std.specs.Prelude.{ℕ, Bool, ◌&&◌, ◌||◌, List, [], ◌∷◌, eqb, ltb}
+use Rattle.std.specs.Prelude.{ℕ, ◌&&◌, ◌||◌, List, [], ◌∷◌, eqb, ltb}
 use Rattle.search.specs.Search.{pick}
 use Rattle.tally.specs.declared.Tally.{Tally}
 use Rattle.wish.specs.declared.Wish.{Wish}

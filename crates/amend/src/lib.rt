@@ -1,5 +1,6 @@
 // A trace taken as if its header said otherwise, the trace of a text, and the sizes of a quote: what commands do beyond printing.
 #![tactic(auto)]
+
 ghost use Rattle.std.specs.Prelude.{◌≡◌, ◌≤◌, length, take};
 ghost use Rattle.trace.specs.Layout.{record_limit, trace_from};
 ghost use Rattle.wish.specs.Wish.{wished_settings};

@@ -1,5 +1,6 @@
 // What the C transport calls: numbers and bytes in, 0 or a refusal out. include/hitchyawl.h is the same for C.
 #![tactic(auto)]
+
 ghost use Rattle.std.specs.Prelude.{◌≡◌, ◌*◌, ◌≤◌, length};
 ghost use Rattle.trace.specs.Check.{check_of, number_of_answer};
 ghost use Rattle.scribe.specs.Write.{ConvertedTo, ConvertsBack};
@@ -17,8 +18,7 @@ pub const COUNTS_BYTES: usize = 4 * tally::COUNTS;
 pub const CURVE_BYTES: usize = 4 * curve::SIZES;
 
 // 0, or the trace's refusal.
-#[unsafe(no_mangle)]
-pub extern "C" fn hitchyawl_check(bytes: &[u8]) -> u32
+pub fn hitchyawl_check(bytes: &[u8]) -> u32
     ensures { result ≡ number_of_answer (check_of bytes.now) }
 {
     let c = trace::check(bytes);
@@ -29,8 +29,7 @@ pub extern "C" fn hitchyawl_check(bytes: &[u8]) -> u32
 }
 
 // The same trace in the other order at the front of `out`: 0, or the refusal with nothing stored.
-#[unsafe(no_mangle)]
-pub extern "C" fn hitchyawl_convert(bytes: &[u8], out: &mut [u8]) -> u32
+pub fn hitchyawl_convert(bytes: &[u8], out: &mut [u8]) -> u32
     ensures converted_to { ConvertedTo bytes.now out.old result out.new }
     ensures converts_back { ConvertsBack bytes.now result out.new }
 {
@@ -63,8 +62,7 @@ fn counts_accepted(bytes: &[u8], summary: Summary, out: &mut [u8]) -> u32
 }
 
 // The six counts of a replay from a fresh pool in the first 24 bytes of `out`, in the trace's order: 0, or the refusal with nothing stored.
-#[unsafe(no_mangle)]
-pub extern "C" fn hitchyawl_counts(bytes: &[u8], out: &mut [u8]) -> u32
+pub fn hitchyawl_counts(bytes: &[u8], out: &mut [u8]) -> u32
     ensures { CountsInto bytes.now out.old result out.new }
 {
     let c = trace::check(bytes);
@@ -92,8 +90,7 @@ fn curve_accepted(bytes: &[u8], summary: Summary, out: &mut [u8]) -> u32
 }
 
 // The misses of LRU with 1 to 128 frames in the first 512 bytes of `out`, in the trace's order: 0, or the refusal with nothing stored.
-#[unsafe(no_mangle)]
-pub extern "C" fn hitchyawl_curve(bytes: &[u8], out: &mut [u8]) -> u32
+pub fn hitchyawl_curve(bytes: &[u8], out: &mut [u8]) -> u32
     ensures { CurveBytesInto bytes.now out.old result out.new }
 {
     let c = trace::check(bytes);
