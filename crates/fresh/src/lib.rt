@@ -1,5 +1,6 @@
 // Replay to counts from a fresh pool.
 #![tactic(auto)]
+
 ghost use Rattle.std.specs.Prelude.{◌≡◌};
 ghost use Rattle.trace.specs.Check.{check_of, trace_of};
 ghost use Rattle.fresh.specs.Fresh.{fresh_counts};

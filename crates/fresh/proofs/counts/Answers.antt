@@ -1,0 +1,14 @@
+use Rattle.fresh.proofs.Laws.{fresh_ready, fresh_counts_are, none_counted}
+use Rattle.fresh.proofs.counts.Goals as goal
+
+pub returns-then-summary-eq0 : goal.returns-then-summary-eq0
+returns-then-summary-eq0 c =
+    none_counted _ _ _ c.requires c.if-summary-eq0.true c.zero.ensures
+
+pub count-ended-requires : goal.count-ended-requires
+count-ended-requires c =
+    fresh_ready _ _ _ _ c.requires c.fresh-opened.ensures c.zero-2.ensures
+
+pub returns : goal.returns
+returns c =
+    fresh_counts_are _ _ _ _ c.requires c.fresh-opened.ensures c.zero-2.ensures _ c.count-ended.ensures
