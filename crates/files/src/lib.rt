@@ -18,6 +18,8 @@ pub enum Status {
     Refused,
     WrongWords,
     Failed,
+    // Whoever read what the program writes has gone.
+    Unread,
 }
 
 #[derive(Clone, Copy)]
@@ -77,8 +79,11 @@ fn tell_reason(rt: &HostRuntime, error: &Error) {
     }
 }
 
-// Tells why a call failed.
+// Tells why a call failed. Where nobody reads what is written there is nothing to tell, as where the system ends a program for it.
 pub fn failed(rt: &HostRuntime, name: &[u8], error: &Error) -> Status {
+    if error.kind() == ErrorKind::BrokenPipe {
+        return Status::Unread;
+    }
     tell(rt, b"hitchyawl: ");
     tell(rt, name);
     tell(rt, b": ");

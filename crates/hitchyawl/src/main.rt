@@ -10,12 +10,14 @@ use std::process::ExitCode;
 use words::names::Command;
 use words::{Request, help};
 
+// 141 is what a shell says of a program that the system ends since nobody reads what it writes.
 fn status_code(status: Status) -> ExitCode {
     match status {
         Status::Done => ExitCode::from(0),
         Status::Refused => ExitCode::from(1),
         Status::WrongWords => ExitCode::from(2),
         Status::Failed => ExitCode::from(3),
+        Status::Unread => ExitCode::from(141),
     }
 }
 
