@@ -1,8 +1,8 @@
 -- WATT: the values of frames, in the batch order, and in the arrays.
-use mathlib.Core.Path.{◌≡◌, ap, sym, ◌∙◌}
+use mathlib.Core.Path.{◌≡◌, ap, ◌∙◌}
 use mathlib.Core.Bool.{Bool, false}
 use mathlib.Core.List.{List}
-use Prim.Native.Nat.{ℕ, ◌+◌, ◌≤◌, ◌<◌}
+use Prim.Native.Nat.{ℕ, ◌+◌, ◌<◌}
 use native.Mathlib.Omega.{arith}
 use native.Mathlib.Decide.{ℕ_discrete}
 use lib.ListN.{length, set}
@@ -12,8 +12,8 @@ use Rattle.worth.specs.declared.Fraction.{Fraction}
 use Rattle.worth.specs.Value.{fraction}
 use Rattle.pool.specs.declared.Frame.{Frame}
 use Rattle.pool.specs.declared.Pool.{Pool}
-use Rattle.pool.specs.Pool.{frame_at, now_of, epoch_at}
-use Rattle.victim.specs.Watt.{value_in, value_at, less_value}
+use Rattle.pool.specs.Pool.{frame_at, now_of}
+use Rattle.victim.specs.Watt.{value_in, less_value}
 use Rattle.victim.specs.Rules.{batch_order}
 use Rattle.victim.proofs.watt.Values.{value_is}
 use Rattle.batch.specs.Batch.{waits}

@@ -1,6 +1,5 @@
 -- The lengths of a pool's arrays; of a pool that a function has, `search rules` finds each from its type.
 use mathlib.Core.Path.{◌≡◌}
-use mathlib.Core.List.{List}
 use Prim.Native.Nat.{ℕ, ◌+◌, ◌*◌, ◌≤◌, ◌<◌}
 use native.Mathlib.Omega.{arith}
 use lib.ListN.{length}

@@ -1,5 +1,6 @@
 // The numbered refusals, and how a call finds the first that fits.
 #![tactic(auto)]
+
 ghost use Rattle.std.specs.Prelude.{◌≡◌};
 ghost use Rattle.refusal.specs.Refusals.{demand};
 

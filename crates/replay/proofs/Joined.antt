@@ -1,17 +1,16 @@
 -- A replay of two traces' records is the first's replay, gone on with.
-use mathlib.Core.Path.{◌≡◌, refl, ap, sym, ◌∙◌}
-use mathlib.Core.List.{List, [], ◌∷◌, ◌++◌, append_assoc, append-nil}
+use mathlib.Core.Path.{◌≡◌, ap, sym, ◌∙◌}
+use mathlib.Core.List.{[], ◌∷◌, append_assoc, append-nil}
 use Prim.Native.Nat.{ℕ, zero, suc, ◌+◌, ◌≤◌, ◌<◌}
 use native.Mathlib.Omega.{arith}
-use lib.ListN.{length, get_or, length-append, get_or-append}
+use lib.ListN.{length, length-append, get_or-append}
 use lib.Seq.{get_or-append-add}
 use Rattle.trace.specs.Layout.{Trace, record_in}
 use Rattle.trace.specs.declared.Record.{Record}
 use Rattle.pool.specs.declared.Pool.{Pool}
-use Rattle.tally.specs.declared.Row.{Row}
 use Rattle.tally.specs.declared.Tally.{Tally}
-use Rattle.effect.specs.Record.{Did, record_of}
-use Rattle.replay.specs.Replay.{Played, started, after, replay_to, replay_of, joined, gone_on}
+use Rattle.effect.specs.Record.{record_of}
+use Rattle.replay.specs.Replay.{Played, after, replay_to, replay_of, joined, gone_on}
 use Rattle.replay.proofs.Laws.{replay_none, replay_suc}
 
 module _ (a b : Trace) (same : length a.pages ≡ length a.kinds) where

@@ -1,4 +1,3 @@
-use Prim.Native.Nat.{◌-◌}
 use Rattle.batch.proofs.Keyed.{lowest_none, lowest_more}
 use borrow.Author.Rules.{rules}
 use Rattle.batch.proofs.lowest.Goals as goal

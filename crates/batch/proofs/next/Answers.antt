@@ -1,6 +1,4 @@
-use Prim.Native.Nat.{◌-◌}
 use mathlib.Core.Path.{refl, sym, ◌∙◌}
-use mathlib.Core.Logic.{⊎_elim}
 use Rattle.victim.proofs.watt.Turns.{best_none, best_skip, best_beat, best_keep}
 use borrow.Author.Rules.{rules}
 use Rattle.batch.proofs.next.Goals as goal

@@ -1,11 +1,6 @@
 use Rattle.table.specs.Table.{pool_in, frames_in}
-use Prim.Native.Nat.{◌+◌, ◌≤◌}
-use mathlib.Core.Path.{◌≡◌, refl}
-use mathlib.Core.Bool.{true}
+use mathlib.Core.Path.{refl}
 use native.Mathlib.Omega.{arith}
-use lib.ListN.{length}
-use Rattle.pool.specs.Pool.{frame_at}
-use Rattle.batch.specs.ForCode.{others_of}
 use Rattle.batch.proofs.Whole.{known_dirty, clean_written, dirty_room, dirty_written}
 use Rattle.batch.proofs.Written.{wrote_length}
 use Rattle.batch.proofs.write.Goals as goal

@@ -1,15 +1,12 @@
-use Prim.Native.Nat.{ℕ, ◌+◌, ◌-◌, ◌%◌, ◌≤◌, ◌<◌}
+use Prim.Native.Nat.{◌+◌, ◌%◌, ◌<◌}
 use mathlib.Core.Path.{◌≡◌, ap, ◌∙◌}
-use mathlib.Core.Bool.{Bool, true}
-use mathlib.Core.List.{List}
+use mathlib.Core.Bool.{Bool}
 use native.Mathlib.Omega.{arith}
 use lib.ListN.{length, length-set}
-use lib.Dec.{ltb}
 use Rattle.search.specs.declared.Found.TheVariants.{At}
 use Rattle.search.specs.Search.{least_below}
-use Rattle.search.specs.ForCode.{keyed, rank_limit}
-use Rattle.batch.specs.Taken.{remaining, others_to}
-use Rattle.batch.specs.ForCode.{has_key, key_rank, Keys}
+use Rattle.search.specs.ForCode.{keyed}
+use Rattle.batch.specs.ForCode.{has_key, key_rank}
 use Rattle.batch.proofs.Batching.{starts, all_remain, found_room, kept_more, turn, ends}
 use Rattle.batch.proofs.Written.{wrote_length}
 use Rattle.batch.proofs.Keyed.{lowest_found, lowest_nothing}

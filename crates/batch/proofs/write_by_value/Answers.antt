@@ -1,13 +1,10 @@
-use Prim.Native.Nat.{ℕ, ◌+◌, ◌-◌, ◌<◌}
+use Prim.Native.Nat.{◌+◌, ◌<◌}
 use mathlib.Core.Path.{◌≡◌, sym, ◌∙◌}
-use mathlib.Core.Bool.{Bool, false}
-use mathlib.Core.List.{List}
+use mathlib.Core.Bool.{false}
 use native.Mathlib.Omega.{arith}
-use lib.ListN.{length, get_or, length-set}
+use lib.ListN.{length, length-set}
 use Rattle.search.specs.declared.Found.TheVariants.{At}
 use Rattle.search.specs.Search.{least_below}
-use Rattle.worth.specs.Value.{less_fraction}
-use Rattle.batch.specs.ForCode.{held_value}
 use Rattle.batch.proofs.Batching.{starts, all_remain, marked, found_below, found_room, kept_more, turn, ends}
 use Rattle.batch.proofs.Left.{marks, value_before, value_rest}
 use Rattle.batch.proofs.Written.{wrote_length}

@@ -1,11 +1,7 @@
-use Prim.Native.Nat.{ℕ, ◌-◌}
-use mathlib.Core.Path.{◌≡◌}
-use mathlib.Core.List.{List}
+use Prim.Native.Nat.{◌-◌}
 use Rattle.settings.proofs.Laws.{ranges}
-use Rattle.pool.specs.declared.Pool.{Pool}
-use Rattle.pool.proofs.Sound.{Sound, told}
+use Rattle.pool.proofs.Sound.{told}
 use Rattle.table.specs.Table.{pool_in}
-use Rattle.batch.specs.ForCode.{KeyedTo, others_of, others_keyed, others_valued}
 use Rattle.batch.proofs.Whole.{keys_hold, others_by_key, values_small, others_by_value, same_room, same_wrote, none_wrote}
 use Rattle.batch.proofs.write_others.Goals as goal
 

@@ -1,6 +1,5 @@
 use native.Mathlib.Omega.{arith}
 use mathlib.Core.Path.{refl}
-use Rattle.pool.specs.declared.Pool.{Pool}
 use Rattle.table.specs.Table.{pool_in}
 use Rattle.effect.proofs.Placed.{way_hit, way_fetch, way_unpin, way_none, unpin_left}
 use Rattle.effect.proofs.enter.Goals as goal

@@ -1,7 +1,5 @@
-use Prim.Native.Nat.{◌<◌}
 use mathlib.Core.Path.{refl}
 use native.Mathlib.Omega.{arith}
-use Rattle.pool.specs.declared.Pool.{Pool}
 use Rattle.table.specs.Table.{pool_in}
 use Rattle.effect.proofs.Making.{chosen_few, chosen_batchable, chosen_short, room_made, room_none}
 use Rattle.effect.proofs.make_room.Goals as goal

@@ -1,9 +1,7 @@
 use mathlib.Core.Path.{◌≡◌, ap, ◌∙◌}
 use Rattle.settings.proofs.Laws.{ranges}
 use Rattle.pool.specs.declared.Frame.{Frame}
-use Rattle.pool.specs.declared.Pool.{Pool}
-use Rattle.pool.proofs.Sound.{Sound, told}
-use Rattle.pool.proofs.Sizes.{Sized}
+use Rattle.pool.proofs.Sound.{told}
 use Rattle.table.specs.Table.{pool_in}
 use Rattle.reference.specs.Search.{lowest_unused}
 use Rattle.reference.proofs.InUse.{unused_is, residents, used_lowest}

@@ -1,9 +1,9 @@
-use mathlib.Core.Path.{◌≡◌, refl, sym, ap, ◌∙◌}
-use Prim.Native.Nat.{◌≤◌, ◌<◌, ◌-◌, min}
+use mathlib.Core.Path.{◌≡◌, sym, ap, ◌∙◌}
+use Prim.Native.Nat.{◌<◌}
 use native.Mathlib.Omega.{arith}
 use lib.ListN.{length, take}
 use lib.Seq.{take_all}
-use Rattle.numeral.specs.Numeral.{number_limit, all_digits, value_after}
+use Rattle.numeral.specs.Numeral.{all_digits}
 use Rattle.numeral.proofs.Laws.{digits_more, value_more, is_number, is_none}
 use Rattle.numeral.proofs.read.Goals as goal
 

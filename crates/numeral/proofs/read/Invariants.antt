@@ -1,10 +1,7 @@
-use mathlib.Core.Path.{◌≡◌, refl, sym, ap, ◌∙◌}
-use Prim.Native.Nat.{◌≤◌, ◌<◌, ◌-◌, min}
-use native.Mathlib.Omega.{arith}
+use mathlib.Core.Path.{◌≡◌}
+use Prim.Native.Nat.{◌≤◌, ◌-◌, min}
 use lib.ListN.{length, take}
-use lib.Seq.{take_all}
 use Rattle.numeral.specs.Numeral.{number_limit, all_digits, value_after}
-use Rattle.numeral.proofs.Laws.{digits_more, value_more, is_number, is_none}
 use Rattle.numeral.proofs.read.Given as goal
 
 abbrev pub invariant-loop-i : goal.invariant-loop-i

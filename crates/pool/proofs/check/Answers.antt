@@ -1,7 +1,6 @@
 use mathlib.Core.Path.{sym, ◌∙◌}
 use Rattle.settings.proofs.Laws.{ranges}
 use Rattle.pool.proofs.ByFrame.{check_ranged, check_outside}
-use borrow.Author.Rules.{rules}
 use Rattle.pool.proofs.check.Goals as goal
 
 pub frames_sound-framed-requires : goal.frames_sound-framed-requires

@@ -1,14 +1,9 @@
 use Prim.Native.Nat.{◌-◌, ◌≤◌}
-use mathlib.Core.Path.{◌≡◌, refl, sym}
-use mathlib.Core.Bool.{true, false}
-use native.Mathlib.Omega.{arith}
-use lib.ListN.{length}
+use mathlib.Core.Path.{◌≡◌}
+use mathlib.Core.Bool.{true}
 use Rattle.search.specs.Search.{every_below}
-use Rattle.search.proofs.Every.{every_none, every_more, every_fails, denied, undenied}
 use Rattle.pool.specs.Pool.{frame_at}
-use Rattle.pool.specs.ForCode.{pair_at, beside_sound, frame_sound}
-use Rattle.pool.proofs.ByFrame.{frame_tested, next_paired, beside_is, before_few}
-use borrow.Author.Rules.{rules}
+use Rattle.pool.specs.ForCode.{pair_at, frame_sound}
 use Rattle.pool.proofs.frames_sound.Given as goal
 
 abbrev pub invariant-loop-j : goal.invariant-loop-j

@@ -1,6 +1,5 @@
 use mathlib.Core.Path.{sym, ◌∙◌}
 use Rattle.pool.proofs.Laws.{fresh_whole, fresh_small}
-use borrow.Author.Rules.{rules}
 use Rattle.pool.proofs.fresh.Goals as goal
 
 pub returns-then-in_range : goal.returns-then-in_range

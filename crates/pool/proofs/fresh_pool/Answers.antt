@@ -1,4 +1,3 @@
-use borrow.Author.Rules.{rules}
 use Rattle.pool.specs.Pool.{fresh_pool}
 use Rattle.pool.proofs.fresh_pool.Goals as goal
 

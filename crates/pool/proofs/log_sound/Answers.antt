@@ -1,11 +1,6 @@
-use Prim.Native.Nat.{◌+◌, ◌-◌, ◌≤◌}
 use mathlib.Core.Path.{◌≡◌, sym, ◌∙◌}
-use mathlib.Core.Bool.{true}
 use native.Mathlib.Omega.{arith}
-use lib.ListN.{get_or}
-use Rattle.search.specs.Search.{every_below}
-use Rattle.search.proofs.Every.{every_none, every_more, denied, undenied}
-use Rattle.pool.specs.Sound.{place_at}
+use Rattle.search.proofs.Every.{every_none, every_more}
 use Rattle.pool.proofs.Laws.{newer_first, newer_next, log_fails, log_ends}
 use borrow.Author.Rules.{rules}
 use Rattle.pool.proofs.log_sound.Goals as goal

@@ -1,13 +1,9 @@
 use Prim.Native.Nat.{◌+◌, ◌-◌, ◌≤◌}
-use mathlib.Core.Path.{◌≡◌, sym, ◌∙◌}
+use mathlib.Core.Path.{◌≡◌}
 use mathlib.Core.Bool.{true}
-use native.Mathlib.Omega.{arith}
 use lib.ListN.{get_or}
 use Rattle.search.specs.Search.{every_below}
-use Rattle.search.proofs.Every.{every_none, every_more, denied, undenied}
 use Rattle.pool.specs.Sound.{place_at}
-use Rattle.pool.proofs.Laws.{newer_first, newer_next, log_fails, log_ends}
-use borrow.Author.Rules.{rules}
 use Rattle.pool.proofs.log_sound.Given as goal
 
 abbrev pub invariant-loop-j : goal.invariant-loop-j

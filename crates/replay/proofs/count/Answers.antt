@@ -1,11 +1,8 @@
-use Prim.Native.Nat.{◌-◌}
 use mathlib.Core.Path.{◌∙◌}
 use native.Mathlib.Omega.{arith}
 use Rattle.trace.proofs.Accept.{counts_are}
-use Rattle.pool.specs.declared.Pool.{Pool}
 use Rattle.pool.proofs.Sizes.{Sized}
 use Rattle.table.specs.Table.{pool_in}
-use Rattle.replay.specs.ForCode.{Ready}
 use Rattle.replay.proofs.Running.{counting_none, counting_more}
 use Rattle.replay.proofs.Counting.{count_plays, countable, played, begun, begun_sized, counted_all}
 use borrow.Author.Rules.{rules}

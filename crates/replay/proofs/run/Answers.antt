@@ -1,18 +1,14 @@
-use Prim.Native.Nat.{◌-◌, ◌*◌}
-use mathlib.Core.Path.{◌≡◌, ap, ◌∙◌}
-use mathlib.Core.Bool.{true}
+use Prim.Native.Nat.{◌*◌}
+use mathlib.Core.Path.{ap, ◌∙◌}
 use native.Mathlib.Omega.{arith}
 use lib.ListN.{length}
 use Rattle.trace.specs.Check.{trace_of}
 use Rattle.trace.proofs.Accept.{counts_are}
-use Rattle.pool.specs.declared.Pool.{Pool}
 use Rattle.pool.proofs.Sizes.{Sized}
 use Rattle.table.specs.Table.{pool_in}
 use Rattle.tally.specs.Rows.{row_numbers}
 use Rattle.effect.specs.ForCode.{Effect}
 use Rattle.effect.specs.Record.{record_of}
-use Rattle.replay.specs.Calls.{room_for}
-use Rattle.replay.specs.ForCode.{Ready}
 use Rattle.replay.proofs.Running.{stored_length, counting_none, listing_none, counting_more, listing_more}
 use Rattle.replay.proofs.Counting.{count_plays, countable, played, row_batch, run_room, run_few, row_room, begun, begun_sized, room_first, counted_all, listed_all}
 use borrow.Author.Rules.{rules}

@@ -1,10 +1,9 @@
 use borrow.Author.Rules.{rules}
-use mathlib.Core.Path.{◌≡◌, sym, subst}
+use mathlib.Core.Path.{sym, subst}
 use native.Mathlib.Omega.{arith}
 use lib.ListN.{length}
 use Rattle.pool.specs.declared.Pool.{Pool}
 use Rattle.pool.proofs.Sizes.{Sized}
-use Rattle.table.specs.Table.{pool_in}
 use Rattle.effect.specs.Record.{record_of}
 use Rattle.effect.specs.ForCode.{Plays}
 use Rattle.table.proofs.Held.{of_parts}

@@ -1,12 +1,7 @@
-use mathlib.Core.Path.{◌≡◌, refl, sym, ◌∙◌}
-use Prim.Native.Nat.{◌-◌, ◌≤◌, ◌<◌, ◌*◌}
-use native.Mathlib.Omega.{arith}
-use mathlib.Core.Bool.{true}
-use lib.Dec.{leb}
+use mathlib.Core.Path.{◌≡◌}
+use Prim.Native.Nat.{◌-◌, ◌≤◌}
 use lib.ListN.{drop}
-use borrow.Author.Tests.{leb-true, le-leb}
 use Rattle.scale.specs.Scale.{steps, first_enough, step_of}
-use Rattle.scale.proofs.Laws.{first_here, first_behind}
 use Rattle.scale.proofs.step_for.Given as goal
 
 abbrev pub invariant-loop-i : goal.invariant-loop-i

@@ -1,5 +1,4 @@
 use native.Mathlib.Omega.{arith}
-use borrow.Author.Rules.{rules}
 use Rattle.scale.proofs.Laws.{few_ticks, one_tick, more_ticks}
 use Rattle.scale.proofs.ticks_for.Goals as goal
 

@@ -1,4 +1,3 @@
-use borrow.Author.Rules.{rules}
 use native.Mathlib.Omega.{arith}
 use Rattle.scale.proofs.Laws.{top_is}
 use Rattle.scale.proofs.top_for.Goals as goal

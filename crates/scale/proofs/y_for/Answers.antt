@@ -1,5 +1,4 @@
 use native.Mathlib.Omega.{arith}
-use borrow.Author.Rules.{rules}
 use Rattle.scale.proofs.Laws.{y_is, y_none}
 use Rattle.scale.proofs.y_for.Goals as goal
 

@@ -1,5 +1,4 @@
 use Rattle.table.proofs.Held.{clean_held}
-use borrow.Author.Rules.{rules}
 use Rattle.table.proofs.clean.Goals as goal
 
 pub returns : goal.returns

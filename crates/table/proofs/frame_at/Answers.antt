@@ -1,7 +1,6 @@
 use mathlib.Core.Path.{sym}
 use Rattle.table.specs.Table.{frame_in}
 use Rattle.table.proofs.Held.{held}
-use borrow.Author.Rules.{rules}
 use Rattle.table.proofs.frame_at.Goals as goal
 
 pub returns : goal.returns

@@ -1,9 +1,7 @@
-use Prim.Native.Nat.{◌-◌, ◌≤◌}
-use mathlib.Core.Path.{◌≡◌, refl, ◌∙◌}
+use mathlib.Core.Path.{refl, ◌∙◌}
 use native.Mathlib.Omega.{arith}
-use lib.ListN.{length, length-set}
-use Rattle.table.specs.Table.{frames_in}
-use Rattle.table.proofs.Held.{Filled, frames_long, filled_none, filled_more, filled_all}
+use lib.ListN.{length-set}
+use Rattle.table.proofs.Held.{frames_long, filled_none, filled_more, filled_all}
 use borrow.Author.Rules.{rules}
 use Rattle.table.proofs.frames_of.Goals as goal
 

@@ -1,10 +1,8 @@
 use Prim.Native.Nat.{◌-◌, ◌≤◌}
-use mathlib.Core.Path.{◌≡◌, refl, ◌∙◌}
-use native.Mathlib.Omega.{arith}
-use lib.ListN.{length, length-set}
+use mathlib.Core.Path.{◌≡◌}
+use lib.ListN.{length}
 use Rattle.table.specs.Table.{frames_in}
-use Rattle.table.proofs.Held.{Filled, frames_long, filled_none, filled_more, filled_all}
-use borrow.Author.Rules.{rules}
+use Rattle.table.proofs.Held.{Filled}
 use Rattle.table.proofs.frames_of.Given as goal
 
 abbrev pub invariant-loop-i : goal.invariant-loop-i

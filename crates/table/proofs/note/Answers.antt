@@ -2,7 +2,6 @@ use mathlib.Core.Path.{refl}
 use native.Mathlib.Omega.{arith}
 use Rattle.table.specs.Table.{guess_place}
 use Rattle.table.proofs.Held.{behind}
-use borrow.Author.Rules.{rules}
 use Rattle.table.proofs.note.Goals as goal
 
 pub returns : goal.returns

@@ -1,6 +1,3 @@
-use mathlib.Core.Path.{refl}
-use native.Mathlib.Omega.{arith}
-use lib.ListN.{length-set}
 use Rattle.table.proofs.Held.{put_held}
 use borrow.Author.Rules.{rules}
 use Rattle.table.proofs.put.Goals as goal

@@ -1,11 +1,8 @@
-use Prim.Native.Nat.{◌-◌, ◌≤◌, ◌<◌}
-use mathlib.Core.Path.{◌≡◌, refl, ap, sym, ◌∙◌}
-use mathlib.Core.Bool.{Bool, ◌&&◌}
-use lib.ListN.{length, take, get_or}
-use lib.Dec.{leb}
+use Prim.Native.Nat.{◌≤◌}
+use mathlib.Core.Path.{ap, ◌∙◌}
+use lib.ListN.{length}
 use lib.Seq.{take_all}
 use Rattle.tally.specs.Tally.{tally_limit, none_above, tally_within}
-use Rattle.tally.proofs.Laws.{none_above_more}
 use borrow.Author.Rules.{rules}
 use Rattle.tally.proofs.within.Goals as goal
 

@@ -1,11 +1,7 @@
-use Prim.Native.Nat.{◌-◌, ◌≤◌, ◌<◌}
-use mathlib.Core.Path.{◌≡◌, refl, ap, sym, ◌∙◌}
-use mathlib.Core.Bool.{Bool, ◌&&◌}
-use lib.ListN.{length, take, get_or}
-use lib.Dec.{leb}
-use lib.Seq.{take_all}
-use Rattle.tally.specs.Tally.{tally_limit, none_above, tally_within}
-use Rattle.tally.proofs.Laws.{none_above_more}
+use Prim.Native.Nat.{◌-◌, ◌≤◌}
+use mathlib.Core.Path.{◌≡◌}
+use lib.ListN.{length, take}
+use Rattle.tally.specs.Tally.{tally_limit, none_above}
 use Rattle.tally.proofs.within.Given as goal
 
 abbrev pub invariant-loop-i : goal.invariant-loop-i

@@ -1,5 +1,4 @@
 use mathlib.Core.Path.{sym, ◌∙◌}
-use borrow.Author.Rules.{rules}
 use Rattle.worth.specs.Value.{greater_of}
 use Rattle.worth.proofs.greater.Goals as goal
 

@@ -1,10 +1,6 @@
 use Prim.Native.Nat.{◌-◌, ◌≤◌}
-use mathlib.Core.Path.{◌≡◌, refl}
-use native.Mathlib.Omega.{arith}
-use Rattle.limit.specs.Limits.{reference_limit}
+use mathlib.Core.Path.{◌≡◌}
 use Rattle.worth.specs.Value.{worth_of}
-use Rattle.worth.specs.Sizes.{Small}
-use Rattle.worth.proofs.Sizes.{small, age_small, part_small, worth_small, worth_turn}
 use Rattle.worth.proofs.log_worth.Given as goal
 
 abbrev pub invariant-loop-j : goal.invariant-loop-j

@@ -1,7 +1,5 @@
 use mathlib.Core.Path.{refl}
-use native.Mathlib.Omega.{arith}
 use Rattle.worth.specs.Value.{value_of}
-use Rattle.worth.proofs.Sizes.{Sizes, value_sizes}
 use Rattle.worth.proofs.value.Goals as goal
 
 pub returns : goal.returns

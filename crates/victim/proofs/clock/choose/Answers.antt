@@ -1,6 +1,5 @@
 use Rattle.std.proofs.Common.{sym, refl, ◌∙◌}
 use Rattle.settings.proofs.Laws.{ranges}
-use Rattle.pool.specs.declared.Pool.{Pool}
 use Rattle.pool.proofs.Sound.{told}
 use Rattle.table.specs.Table.{pool_in}
 use Rattle.victim.proofs.clock.Sweeping.{way_swept, way_pinned}

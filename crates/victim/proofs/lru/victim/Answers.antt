@@ -1,12 +1,11 @@
-use Rattle.std.proofs.Common.{◌≡◌, ◌-◌, eqb, ap, ◌∙◌, arith, rules}
-use Rattle.search.specs.Search.{least_below}
+use Rattle.std.proofs.Common.{◌≡◌, eqb, ap, ◌∙◌, arith, rules}
 use Rattle.pool.specs.Pool.{frame_at}
 use Rattle.pool.specs.declared.Frame.{Frame}
 use Rattle.table.specs.Table.{frames_in}
 use Rattle.victim.specs.Choice.{unpinned}
 use Rattle.search.specs.ForCode.{keyed}
-use Rattle.victim.specs.Lru.{older, lru_victim}
-use Rattle.search.proofs.ByKey.{key_of, key_none, key_more, key_found, key_nothing}
+use Rattle.victim.specs.Lru.{lru_victim}
+use Rattle.search.proofs.ByKey.{key_none, key_more, key_found, key_nothing}
 use Rattle.victim.proofs.lru.victim.Goals as goal
 
 pub loop-i-init : goal.loop-i-init

@@ -1,9 +1,7 @@
 use Rattle.settings.proofs.Laws.{ranges}
-use Rattle.pool.specs.declared.Pool.{Pool}
 use Rattle.pool.proofs.Sound.{told}
 use Rattle.table.specs.Table.{pool_in}
 use Rattle.victim.proofs.watt.Values.{now_is}
-use Rattle.victim.specs.ForCode.{Timed}
 use Rattle.victim.proofs.watt.Turns.{victim_is, choice_is}
 use Rattle.victim.proofs.watt.choose.Goals as goal
 

@@ -1,6 +1,5 @@
-use Rattle.std.proofs.Common.{◌-◌, ◌<◌, sym, refl, ◌∙◌, ⊎_elim, arith, rules, eq-eqb, ne_eqb}
+use Rattle.std.proofs.Common.{◌<◌, sym, refl, ◌∙◌, arith, rules, eq-eqb, ne_eqb}
 use Rattle.settings.proofs.Laws.{ranges}
-use Rattle.pool.specs.declared.Pool.{Pool}
 use Rattle.pool.proofs.Sound.{told}
 use Rattle.table.specs.Table.{pool_in}
 use Rattle.victim.proofs.watt.Values.{fitting, value_found}
