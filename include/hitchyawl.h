@@ -1,7 +1,7 @@
 /* Hitchyawl for a C transport: check a trace of edition 1, put it into the other byte order, replay it
  * to counts, and find LRU's misses at every pool size.
  *
- * The calls are exported by the archive of the crate `host`; "For C" in the README says how to build
+ * The calls are exported by the archive of the crate `host_c`; "For C" in the README says how to build
  * and link it. It needs memcpy, memmove and memset. The calls keep no state, allocate nothing, and may
  * run in several threads at once. hitchyawl_counts may need 256 KiB of stack, the others hardly any.
  * While a call runs, nothing else may write to its buffers, neither another thread nor another process
