@@ -1,4 +1,5 @@
 use Prim.Native.Nat.{◌-◌}
+use native.Mathlib.Omega.{arith}
 use Rattle.settings.proofs.Laws.{ranges}
 use Rattle.pool.proofs.Sound.{told}
 use Rattle.table.specs.Table.{pool_in}
@@ -6,7 +7,9 @@ use Rattle.batch.proofs.Whole.{keys_hold, others_by_key, values_small, others_by
 use Rattle.batch.proofs.write_others.Goals as goal
 
 pub overflow_sub-most : goal.overflow_sub-most
-overflow_sub-most c = (ranges _ (told (pool_in c.args.h c.args.table.now c.args.access.now c.args.write.now) c.requires.0).settings).batch.0
+overflow_sub-most c =
+    let batch = (ranges _ (told (pool_in c.args.h c.args.table.now c.args.access.now c.args.write.now) c.requires.0).settings).batch in
+    omega arith
 
 pub returns-then-most-eq0 : goal.returns-then-most-eq0
 returns-then-most-eq0 c = none_wrote (pool_in c.args.h c.args.table.now c.args.access.now c.args.write.now) c.args.v _ _ _ c.if-most-eq0.true
