@@ -1,10 +1,15 @@
 -- Laws of demands: what is known where nothing was refused.
-use mathlib.Core.Path.{◌≡◌, refl}
+use mathlib.Core.Path.{◌≡◌, refl, sym, ap, ◌∙◌}
 use mathlib.Core.Bool.{Bool, true, false}
-use mathlib.Core.List.{List}
+use mathlib.Core.List.{List, [], ◌∷◌}
 use Prim.Native.Nat.{ℕ, zero, suc, ◌<◌}
 use native.Mathlib.Omega.{arith}
+use lib.ListN.{get_or}
+use Rattle.std.specs.Prelude.{Result, Err}
+use Rattle.refusal.specs.declared.Refusal.{Refusal}
+use Rattle.refusal.specs.declared.Refusal.TheVariants.{TooShort, UnknownMark, OtherEdition, TooMany, WrongLength, BadField, WrongWrites, OutOfRange, NoReferenceLeft, NoFrame, NotPinned, PinsFull, NoRoom, NotSound, OtherSettings, HasPins}
 use Rattle.refusal.specs.Refusals.{demand, or_else, stored}
+use Rattle.refusal.specs.Numbers.{number_of, answer_of}
 
 -- a demand that refuses nothing was met, and what follows refuses nothing
 pub met : (b : Bool) (refusal after : ℕ) → 0 < refusal → demand b refusal after ≡ 0 → (b ≡ true) × (after ≡ 0)
@@ -25,3 +30,40 @@ neither (suc a) b h = absurd (omega arith)
 pub unstored : (r : ℕ) (numbers lent : List ℕ) → (r ≡ 0 → ⊥) → lent ≡ stored r numbers lent
 unstored zero numbers lent h = absurd (h refl)
 unstored (suc r) numbers lent h = refl
+
+-- no refusal has the number of none
+pub number_some : (r : Refusal) → 0 < number_of r
+number_some r = grind arith
+
+-- the refusals at the places that their numbers name
+every : List Refusal
+every =
+    TooShort ∷ TooShort ∷ UnknownMark ∷ OtherEdition ∷ TooMany ∷ WrongLength ∷ BadField ∷ WrongWrites ∷ OutOfRange ∷ NoReferenceLeft
+    ∷ NoFrame ∷ NotPinned ∷ PinsFull ∷ NoRoom ∷ NotSound ∷ OtherSettings ∷ OtherSettings ∷ HasPins ∷ []
+
+named : (r : Refusal) → get_or every (number_of r) TooShort ≡ r
+unfolding every
+named TooShort = refl
+named UnknownMark = refl
+named OtherEdition = refl
+named TooMany = refl
+named WrongLength = refl
+named BadField = refl
+named WrongWrites = refl
+named OutOfRange = refl
+named NoReferenceLeft = refl
+named NoFrame = refl
+named NotPinned = refl
+named PinsFull = refl
+named NoRoom = refl
+named NotSound = refl
+named OtherSettings = refl
+named HasPins = refl
+
+-- no two refusals share a number
+pub number_injective : (r q : Refusal) → number_of r ≡ number_of q → r ≡ q
+number_injective r q e = sym (named r) ∙ ap (λ (n : ℕ). get_or every n TooShort) e ∙ named q
+
+-- an answer of 0 refuses nothing
+pub answer_none : {T : Type 0} (a : Result T Refusal) (r : Refusal) → a ≡ Err r → answer_of a ≡ 0 → ⊥
+answer_none a r e h = let some = number_some r in let n : number_of r ≡ 0 = rw e at h in omega arith
