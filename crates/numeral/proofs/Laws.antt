@@ -2,6 +2,7 @@
 use mathlib.Core.Path.{◌≡◌, refl, sym, ap, ◌∙◌}
 use mathlib.Core.Bool.{Bool, true, false, ◌&&◌, and-true, and_assoc}
 use mathlib.Core.List.{List, [], ◌∷◌, ◌++◌}
+use Rattle.std.specs.Prelude.{Some, None}
 use Prim.Native.Nat.{ℕ, ◌+◌, ◌*◌, ◌-◌, ◌<◌, min}
 use native.Mathlib.Numerals.{add-one}
 use native.Mathlib.Omega.{arith}
@@ -9,7 +10,6 @@ use lib.ListN.{length, get_or, take}
 use lib.Seq.{take-suc}
 use lib.Dec.{ltb}
 use Rattle.numeral.specs.Numeral.{number_limit, is_digit, all_digits, value_after, numeral_of}
-use Rattle.numeral.specs.declared.Numeral.TheVariants.{Number, NoNumber}
 
 pub all_snoc : (l : List ℕ) (c : ℕ) → all_digits (l ++ (c ∷ [])) ≡ (all_digits l && is_digit c)
 all_snoc [] c = and-true (is_digit c)
@@ -35,10 +35,10 @@ value_more l i n m h e f =
     ∙ sym (rw (add-one, take-suc l i 0 h, value_snoc (take i l) 0 (get_or l i 0)))
 
 -- the two answers
-pub is_number : (s : List ℕ) (d : Bool) (n : ℕ) → d ≡ all_digits s → n ≡ min (value_after 0 s) number_limit → (d && ltb 0 (length s)) ≡ true → Number n ≡ numeral_of s
+pub is_number : (s : List ℕ) (d : Bool) (n : ℕ) → d ≡ all_digits s → n ≡ min (value_after 0 s) number_limit → (d && ltb 0 (length s)) ≡ true → Some n ≡ numeral_of s
 unfolding numeral_of
 is_number s d n e f t = rw (f, ← e, t)
 
-pub is_none : (s : List ℕ) (d : Bool) → d ≡ all_digits s → (d && ltb 0 (length s)) ≡ false → NoNumber ≡ numeral_of s
+pub is_none : (s : List ℕ) (d : Bool) → d ≡ all_digits s → (d && ltb 0 (length s)) ≡ false → None ≡ numeral_of s
 unfolding numeral_of
 is_none s d e t = rw (← e, t)

@@ -1,8 +1,6 @@
 -- Decimal numbers as text, in ASCII.
-use Rattle.std.specs.Prelude.{ℕ, ◌+◌, ◌*◌, ◌-◌, min, Bool, true, ◌&&◌, List, [], ◌∷◌, leb, ltb, length}
+use Rattle.std.specs.Prelude.{ℕ, ◌+◌, ◌*◌, ◌-◌, min, Bool, true, ◌&&◌, Option, Some, None, List, [], ◌∷◌, leb, ltb, length}
 use Rattle.search.specs.Search.{pick}
-use Rattle.numeral.specs.declared.Numeral.{Numeral}
-use Rattle.numeral.specs.declared.Numeral.TheVariants.{Number, NoNumber}
 
 -- one past the greatest number of 4 bytes
 abbrev pub number_limit : ℕ
@@ -23,5 +21,5 @@ value_after n [] = n
 value_after n (c ∷ s) = value_after (n * 10 + (c - 48)) s
 
 -- the number of a text of one or more digits; those that do not fit 4 bytes are not told apart
-unfoldable pub numeral_of : List ℕ → Numeral
-numeral_of s = pick (all_digits s && ltb 0 (length s)) (Number (min (value_after 0 s) number_limit)) NoNumber
+unfoldable pub numeral_of : List ℕ → Option ℕ
+numeral_of s = pick (all_digits s && ltb 0 (length s)) (Some (min (value_after 0 s) number_limit)) None

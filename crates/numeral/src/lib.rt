@@ -4,13 +4,6 @@
 ghost use Rattle.std.specs.Prelude.{◌≡◌, ◌+◌, ◌*◌, ◌-◌, ◌≤◌, min};
 ghost use Rattle.numeral.specs.Numeral.{number_limit, is_digit, numeral_of};
 
-// What a text is: a number, or none.
-#[derive(Clone, Copy)]
-pub enum Numeral {
-    Number(u64),
-    NoNumber,
-}
-
 // One past the greatest number of 4 bytes. Greater numbers are not told apart.
 pub const NUMBER_LIMIT: u64 = 4294967296;
 
@@ -41,7 +34,7 @@ fn longer(n: u64, c: u8) -> u64
 }
 
 // The number that a text of one or more digits is.
-pub fn read(text: &[u8]) -> Numeral
+pub fn read(text: &[u8]) -> Option<u64>
     ensures { result ≡ numeral_of text.now }
 {
     let mut digits = true;
@@ -54,7 +47,7 @@ pub fn read(text: &[u8]) -> Numeral
         i += 1;
     }
     if digits & (0 < text.len()) {
-        return Numeral::Number(n);
+        return Some(n);
     }
-    Numeral::NoNumber
+    None
 }

@@ -1,6 +1,7 @@
 -- Reading the lines of records gives the records.
 use mathlib.Core.Path.{◌≡◌, refl, sym, ap, ◌∙◌}
 use mathlib.Core.Bool.{Bool, true, false, not, ◌&&◌, and-eq-true_iff}
+use Rattle.std.specs.Prelude.{Some}
 use mathlib.Core.List.{List, [], ◌∷◌, ◌++◌, map, map-append, append_assoc}
 use Prim.Native.Nat.{ℕ, zero, suc, ◌+◌, ◌*◌, ◌-◌, ◌/◌, ◌%◌, ◌^◌, ◌≤◌, ◌<◌, min}
 use native.Mathlib.Nat.{pow-suc, mod-lt}
@@ -10,7 +11,6 @@ use lib.ListN.{length, get_or}
 use borrow.Author.Tests.{lt-ltb, le-leb, ne_eqb}
 use Rattle.io.specs.Digits.{hex_digit_ascii, last_digits}
 use Rattle.numeral.specs.Numeral.{number_limit, is_digit, all_digits, value_after, numeral_of}
-use Rattle.numeral.specs.declared.Numeral.TheVariants.{Number}
 use Rattle.numeral.proofs.Laws.{all_snoc, value_snoc}
 use Rattle.trace.specs.Layout.{Trace, up_to}
 use Rattle.trace.specs.Encode.{Proper}
@@ -40,7 +40,7 @@ digits_value (suc k) n h =
     value_snoc (last_digits 10 k (n / 10)) 0 (hex_digit_ascii (n % 10)) ∙ rw (i, g.1) (omega arith)
 
 -- a number is read back from its digits
-decimal_read : (n : ℕ) → n < number_limit → numeral_of (decimal_of n) ≡ Number n
+decimal_read : (n : ℕ) → n < number_limit → numeral_of (decimal_of n) ≡ Some n
 unfolding numeral_of decimal_of
 decimal_read n h =
     let k = places 9 n in

@@ -1,12 +1,10 @@
 -- A trace as text: a line for each record, a kind, one space and a number.
-use Rattle.std.specs.Prelude.{ℕ, zero, suc, ◌*◌, ◌/◌, Bool, true, false, ◌&&◌, List, [], ◌∷◌, ◌++◌, map, ◌≡◌, eqb, leb, ltb, length, drop, get_or}
+use Rattle.std.specs.Prelude.{ℕ, zero, suc, ◌*◌, ◌/◌, Bool, true, false, ◌&&◌, Option, Some, None, List, [], ◌∷◌, ◌++◌, map, ◌≡◌, eqb, leb, ltb, length, drop, get_or}
 use Rattle.io.specs.Digits.{last_digits}
 use Rattle.search.specs.Search.{pick}
 use Rattle.refusal.specs.Refusals.{demand, or_else, stored, no_room}
 use Rattle.trace.specs.Layout.{Trace}
 use Rattle.trace.specs.Check.{refusal_of, trace_of}
-use Rattle.numeral.specs.declared.Numeral.{Numeral}
-use Rattle.numeral.specs.declared.Numeral.TheVariants.{Number, NoNumber}
 use Rattle.numeral.specs.Numeral.{number_limit, numeral_of}
 use Rattle.text.specs.declared.Exported.{Exported}
 use Rattle.text.specs.declared.Exported.TheVariants.{Refused, Written}
@@ -42,9 +40,9 @@ is_passed [] = true
 is_passed (c ∷ line) = eqb c remark
 
 -- a record of a kind: what stands behind the space is a number below 4,294,967,296
-abbrev pub record_line : ℕ → Numeral → Line
-record_line kind (Number n) = pick (ltb n number_limit) (Record kind n) Bad
-record_line kind NoNumber = Bad
+abbrev pub record_line : ℕ → Option ℕ → Line
+record_line kind (Some n) = pick (ltb n number_limit) (Record kind n) Bad
+record_line kind None = Bad
 
 -- the record of a kind where a line begins with the kind's word, else what it is otherwise
 abbrev pub record_if : ℕ → List ℕ → List ℕ → Line → Line

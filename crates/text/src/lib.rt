@@ -10,7 +10,6 @@ ghost use Rattle.text.specs.Text.{begins_with, is_passed, record_line, record_if
 ghost use Rattle.trace.specs.Check.{check_of, trace_of};
 ghost use Rattle.text.specs.ForCode.{line_end};
 
-use numeral::Numeral;
 use trace::{Checked, Summary};
 
 // What a line is: passed over, a record's kind and page, or bad.
@@ -72,15 +71,9 @@ fn record_from(kind: u16, line: &[u8], at: usize) -> Line
     requires { at ≤ length line.now }
     ensures { result ≡ record_line kind (numeral_of (drop at line.now)) }
 {
-    let page = numeral::read(&line[at..]);
-    match page {
-        Numeral::Number(n) => {
-            if n < numeral::NUMBER_LIMIT {
-                return Line::Record(kind, n as u32);
-            }
-            Line::Bad
-        }
-        Numeral::NoNumber => Line::Bad,
+    match numeral::read(&line[at..]) {
+        Some(page) if page < numeral::NUMBER_LIMIT => Line::Record(kind, page as u32),
+        _ => Line::Bad,
     }
 }
 

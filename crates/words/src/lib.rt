@@ -6,7 +6,6 @@ pub mod names;
 
 use files::{fetch, front, same, spaces, tell};
 use names::{Command, Flag};
-use numeral::Numeral;
 use std::env::{Env, FillError};
 use wish::Wish;
 use word::Order;
@@ -198,10 +197,9 @@ fn with_setting(r: Request, place: usize, i: usize, word: &[u8]) -> Request {
     if place == wish::RULE {
         return with_rule(r, i, word);
     }
-    let number = numeral::read(word);
-    match number {
-        Numeral::Number(n) => with_wish(r, place, n),
-        Numeral::NoNumber => faulty(r, Fault::NoNumber, i),
+    match numeral::read(word) {
+        Some(n) => with_wish(r, place, n),
+        None => faulty(r, Fault::NoNumber, i),
     }
 }
 
