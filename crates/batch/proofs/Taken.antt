@@ -9,8 +9,7 @@ use native.Mathlib.Omega.{arith}
 use lib.ListN.{length, length-append}
 use lib.Dec.{eqb}
 use borrow.Author.Tests.{eqb-false}
-use Rattle.search.specs.declared.Found.{Found}
-use Rattle.search.specs.declared.Found.TheVariants.{At, Nothing}
+use Rattle.std.specs.Prelude.{Option, Some, None}
 use Rattle.search.specs.Search.{on_found, least_below, among}
 use Rattle.search.proofs.Least.{Order, least_sound, least_none, least_least, least_lowest}
 use Rattle.search.proofs.Every.{denied}
@@ -74,7 +73,7 @@ module _ (waits : ℕ → Bool) (before : ℕ → ℕ → Bool) (f : ℕ) (ord :
     pub distinct : Distinct xs
     pub least : (j : ℕ) → j < f → still xs j ≡ true → All (λ t. Before before t j) xs
 
-  taken : (xs : List ℕ) → Chosen xs → (i : ℕ) → least_below (still xs) before f ≡ At i → Chosen (xs ++ (i ∷ []))
+  taken : (xs : List ℕ) → Chosen xs → (i : ℕ) → least_below (still xs) before f ≡ Some i → Chosen (xs ++ (i ∷ []))
   taken xs c i e =
       let w = least_sound (still xs) before f i e in
       let a = (and-eq-true_iff (waits i) (not (among xs i))).0 w.1 in record {
@@ -93,9 +92,9 @@ module _ (waits : ℕ → Bool) (before : ℕ → ℕ → Bool) (f : ℕ) (ord :
   one_more_lem : (xs : List ℕ) → Chosen xs → Chosen (one_more waits before f xs)
   one_more_lem xs c = go (least_below (still xs) before f) refl
     where
-      go : (r : Found) → least_below (still xs) before f ≡ r → Chosen (on_found r (λ i. xs ++ (i ∷ [])) xs)
-      go (At i) e = taken xs c i e
-      go Nothing e = c
+      go : (r : Option ℕ) → least_below (still xs) before f ≡ r → Chosen (on_found r (λ i. xs ++ (i ∷ [])) xs)
+      go (Some i) e = taken xs c i e
+      go None e = c
 
   pub chosen : (n : ℕ) → Chosen (others n)
   unfolding others_to
@@ -116,11 +115,11 @@ module _ (waits : ℕ → Bool) (before : ℕ → ℕ → Bool) (f : ℕ) (ord :
       short (inl q) = omega arith
       short (inr q) = let z = q.0 in omega arith
 
-      go : (r : Found) → least_below (still xs) before f ≡ r → Enough (on_found r (λ i. xs ++ (i ∷ [])) xs) (suc n)
-      go (At i) e =
+      go : (r : Option ℕ) → least_below (still xs) before f ≡ r → Enough (on_found r (λ i. xs ++ (i ∷ [])) xs) (suc n)
+      go (Some i) e =
           let w = least_sound (still xs) before f i e in
           ⊎_elim (λ q. inl (grown xs i ∙ ap suc q)) (λ q. absurd (true≢false (sym w.1 ∙ q.1 i w.0))) h
-      go Nothing e = inr (short h, λ j l. least_none (still xs) before f j e l)
+      go None e = inr (short h, λ j l. least_none (still xs) before f j e l)
 
   pub enough : (n : ℕ) → Enough (others n) n
   unfolding others_to

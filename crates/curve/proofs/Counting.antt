@@ -9,8 +9,7 @@ use lib.ListN.{length, get_or, set, take, replicate, get_or-replicate}
 use lib.Seq.{get_or-set_same, get_or-set_other, sets}
 use lib.Dec.{eqb, ltb, leb}
 use borrow.Author.Tests.{eq-eqb, ne_eqb, eqb-true, eqb-false, lt-ltb, le-ltb, ltb-true, ltb-false}
-use Rattle.search.specs.declared.Found.{Found}
-use Rattle.search.specs.declared.Found.TheVariants.{At, Nothing}
+use Rattle.std.specs.Prelude.{Option, Some, None}
 use Rattle.search.specs.Search.{one_if, count_below, every_below}
 use Rattle.search.specs.ForCode.{past}
 use Rattle.search.proofs.Count.{count_none, count_suc, count_more, count_few}
@@ -53,7 +52,7 @@ pub found_is : (pages room room' : List ℕ) (depth i page found : ℕ) → Stac
 unfolding past_at
 found_is pages room room' depth i page found s e u =
     u.place ∙ ap (λ (l : List ℕ). past (place_in l page)) s.stack ∙ ap (λ (x : ℕ). past (place_in (take 128 (recent pages i)) x)) e
-    ∙ ap past (place_cut 128 (recent pages i) (get_or pages i 0)) ∙ ap (λ (r : Found). past (below 128 r)) (sym (distance_place pages i))
+    ∙ ap past (place_cut 128 (recent pages i) (get_or pages i 0)) ∙ ap (λ (r : Option ℕ). past (below 128 r)) (sym (distance_place pages i))
 
 pub times_none : (pages : List ℕ) → Times pages (replicate 129 0) 0
 times_none pages = record { counted = λ j l. get_or-replicate 129 j 0 0 (omega arith) ∙ sym (count_none (λ i. eqb (past_at pages i) j)) }
@@ -91,18 +90,18 @@ count_all ok zero h = count_none ok
 count_all ok (suc n) h = let x = count_suc ok n in let e = count_all ok n h in let o = ap one_if (h n) in omega arith
 
 -- with no frame each use is a miss
-not_within : (r : Found) → not (within 0 r) ≡ true
-not_within Nothing = refl
-not_within (At d) = ap not (le-ltb d 0 (omega arith))
+not_within : (r : Option ℕ) → not (within 0 r) ≡ true
+not_within None = refl
+not_within (Some d) = ap not (le-ltb d 0 (omega arith))
 
 frameless : (pages : List ℕ) (n : ℕ) → misses_to pages 0 n ≡ n
 unfolding misses_to
 frameless pages n = count_all (λ i. not (within 0 (distance_at pages i))) n (λ i. not_within (distance_at pages i))
 
 -- one frame more spares the uses at one place
-one_spared : (r : Found) (f : ℕ) → f < 128 → one_if (not (within f r)) ≡ one_if (not (within (suc f) r)) + one_if (eqb (past (below 128 r)) (suc f))
-one_spared Nothing f l = let e = ap one_if (ne_eqb 0 (suc f) (λ q. omega arith)) in omega arith
-one_spared (At d) f l =
+one_spared : (r : Option ℕ) (f : ℕ) → f < 128 → one_if (not (within f r)) ≡ one_if (not (within (suc f) r)) + one_if (eqb (past (below 128 r)) (suc f))
+one_spared None f l = let e = ap one_if (ne_eqb 0 (suc f) (λ q. omega arith)) in omega arith
+one_spared (Some d) f l =
     by_test (ltb d f)
     (λ h. let m = ltb-true d f h in
     rw (h, lt-ltb d (suc f) (omega arith), lt-ltb d 128 (omega arith), ne_eqb (d + 1) (suc f) (λ q. omega arith)) (omega arith))

@@ -9,8 +9,7 @@ use lib.ListN.{length, get_or, set, take, drop, length-append, length-take, leng
 use lib.Seq.{take_all, take-suc, drop-cons, append_snoc, length-take-le, set_at, take_at, drop_at, take-take, take-add, take-append-add, get_or-take}
 use lib.Dec.{eqb}
 use borrow.Author.Tests.{ne_eqb, eqb-true, eqb-false}
-use Rattle.search.specs.declared.Found.{Found}
-use Rattle.search.specs.declared.Found.TheVariants.{At, Nothing}
+use Rattle.std.specs.Prelude.{Option, Some, None}
 use Rattle.search.specs.ForCode.{past}
 use Rattle.distance.specs.Recent.{touched}
 use Rattle.distance.specs.ForCode.{place_in}
@@ -75,7 +74,7 @@ front_of a d m l h =
 
 module _ (a : List ℕ) (x : ℕ) (z : length a ≡ 128) where
   -- a page that stood at place d
-  from_place : (d m : ℕ) → suc m ≤ 128 → place_in (take (suc m) a) x ≡ At d → take (suc m) (moved_up a d x) ≡ take 128 (touched x (take (suc m) a))
+  from_place : (d m : ℕ) → suc m ≤ 128 → place_in (take (suc m) a) x ≡ Some d → take (suc m) (moved_up a d x) ≡ take 128 (touched x (take (suc m) a))
   from_place d m l e =
       let w = place_without (take (suc m) a) x d e in
       let few = length-take-le (suc m) a (omega arith) in
@@ -89,7 +88,7 @@ module _ (a : List ℕ) (x : ℕ) (z : length a ≡ 128) where
       ∙ ap (λ (q : List ℕ). take 128 (x ∷ q)) (sym w.1)
 
   -- a page that was not there
-  from_below : (depth : ℕ) → depth ≤ 128 → place_in (take depth a) x ≡ Nothing
+  from_below : (depth : ℕ) → depth ≤ 128 → place_in (take depth a) x ≡ None
       → take (suc (min depth 127)) (moved_up a (min depth 127) x) ≡ take 128 (touched x (take depth a))
   from_below depth l e =
       let m = min depth 127 in
@@ -109,18 +108,18 @@ module _ (a : List ℕ) (x : ℕ) (z : length a ≡ 128) where
       → take (deepened found depth) (moved_up a (left_by found depth) x) ≡ take 128 (touched x (take depth a))
   moved_stack depth found l e = go (place_in (take depth a) x) refl
     where
-      some : (m d : ℕ) → suc m ≤ 128 → place_in (take (suc m) a) x ≡ At d → found ≡ d + 1
+      some : (m d : ℕ) → suc m ≤ 128 → place_in (take (suc m) a) x ≡ Some d → found ≡ d + 1
           → take (deepened found (suc m)) (moved_up a (left_by found (suc m)) x) ≡ take 128 (touched x (take (suc m) a))
       some m d h p q = let k : d + 1 - 1 ≡ d = omega arith in rw (q, ne_eqb (d + 1) 0 (λ w. omega arith), k) (from_place d m h p)
 
-      at : (depth d : ℕ) → depth ≤ 128 → place_in (take depth a) x ≡ At d → found ≡ d + 1
+      at : (depth d : ℕ) → depth ≤ 128 → place_in (take depth a) x ≡ Some d → found ≡ d + 1
           → take (deepened found depth) (moved_up a (left_by found depth) x) ≡ take 128 (touched x (take depth a))
       at zero d h p q = let b = (place_without (take 0 a) x d p).0 in absurd (omega arith)
       at (suc m) d h p q = some m d h p q
 
-      go : (r : Found) → place_in (take depth a) x ≡ r → take (deepened found depth) (moved_up a (left_by found depth) x) ≡ take 128 (touched x (take depth a))
-      go (At d) q = at depth d l q (e ∙ ap past q)
-      go Nothing q =
+      go : (r : Option ℕ) → place_in (take depth a) x ≡ r → take (deepened found depth) (moved_up a (left_by found depth) x) ≡ take 128 (touched x (take depth a))
+      go (Some d) q = at depth d l q (e ∙ ap past q)
+      go None q =
           let zero-found : found ≡ 0 = e ∙ ap past q in
           let k : min (depth + 1) 128 ≡ suc (min depth 127) = omega arith in
           rw (zero-found, k) (from_below depth l q)

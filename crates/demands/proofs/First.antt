@@ -9,8 +9,7 @@ use native.Mathlib.Omega.{arith}
 use lib.ListN.{length}
 use lib.Dec.{eqb, leb}
 use borrow.Author.Tests.{leb-true, leb-false, le-leb, lt-leb, eqb-false, ne_eqb}
-use Rattle.search.specs.declared.Found.{Found}
-use Rattle.search.specs.declared.Found.TheVariants.{At, Nothing}
+use Rattle.std.specs.Prelude.{Option, Some, None}
 use Rattle.search.specs.Search.{pick}
 use Rattle.refusal.proofs.Laws.{unstored}
 use Rattle.refusal.specs.Refusals.{stored, demand, out_of_range, no_reference_left, not_pinned, pins_full, not_sound}
@@ -245,13 +244,13 @@ module _ (p : Pool) (page : ℕ) where
       by : (d : Did) → unpin_of p page ≡ d → d.row.outcome ≡ 110
       by d e = sym (ap (λ (x : Did). x.row.outcome) e) ∙ h
 
-      pinned : (b : Bool) (i : ℕ) → find_page p.frames page ≡ At i → eqb (pins_at p i) 0 ≡ b → ⊥
+      pinned : (b : Bool) (i : ℕ) → find_page p.frames page ≡ Some i → eqb (pins_at p i) 0 ≡ b → ⊥
       pinned true i a e = let n = by (refusal p not_pinned) (unpin_none p page i a e) in omega arith
       pinned false i a e = let n = ap (λ (x : Did). x.row.outcome) (unpin_one p page i a e) in omega arith
 
-      found : (f : Found) → find_page p.frames page ≡ f → ⊥
-      found (At i) a = pinned (eqb (pins_at p i) 0) i a refl
-      found Nothing a = let n = by (refusal p not_pinned) (unpin_absent p page a) in omega arith
+      found : (f : Option ℕ) → find_page p.frames page ≡ f → ⊥
+      found (Some i) a = pinned (eqb (pins_at p i) 0) i a refl
+      found None a = let n = by (refusal p not_pinned) (unpin_absent p page a) in omega arith
 
   module _ (s : Sound p) where
     every_pinned : ((i : ℕ) → i < p.settings.frames → 0 < (frame_at p.frames i).pins) → EveryPinned p
@@ -264,13 +263,13 @@ module _ (p : Pool) (page : ℕ) where
           other : (d : Did) → record_of p page kind ≡ d → d.row.outcome ≡ 110
           other d e = sym (ap (λ (x : Did). x.row.outcome) e) ∙ h
 
-          full : (b : Bool) (i : ℕ) → p.k < reference_limit → find_page p.frames page ≡ At i → (eqb kind 2 && eqb (pins_at p i) pin_limit) ≡ b → WantsFrame p page kind
+          full : (b : Bool) (i : ℕ) → p.k < reference_limit → find_page p.frames page ≡ Some i → (eqb kind 2 && eqb (pins_at p i) pin_limit) ≡ b → WantsFrame p page kind
           full true i room a e = let n = other (refusal p pins_full) ((hit_answers p page kind reference room i a).0 e) in absurd (omega arith)
           full false i room a e = let n = ((hit_answers p page kind reference room i a).1 e).outcome in absurd (omega arith)
 
-          found : (f : Found) → p.k < reference_limit → find_page p.frames page ≡ f → WantsFrame p page kind
-          found (At i) room a = full (eqb kind 2 && eqb (pins_at p i) pin_limit) i room a refl
-          found Nothing room a = record {
+          found : (f : Option ℕ) → p.k < reference_limit → find_page p.frames page ≡ f → WantsFrame p page kind
+          found (Some i) room a = full (eqb kind 2 && eqb (pins_at p i) pin_limit) i room a refl
+          found None room a = record {
             reference = omega arith;
             within = room;
             missed = a;

@@ -1,8 +1,7 @@
 -- The first demand: "Any bytes, settings or pool state may be handed in. Every call ends with its one answer or the numbered refusal that fits. A refused
 -- call changes no pool and no lent byte; a refused record inside a replay shows only in its row and the refused count. Within the reference limit a
 -- missed page is refused for want of a frame exactly when every frame is pinned."
-use Rattle.std.specs.Prelude.{ℕ, suc, ◌+◌, ◌≤◌, ◌<◌, ◌≡◌, true, List, [], ◌↔◌, length}
-use Rattle.search.specs.declared.Found.TheVariants.{Nothing}
+use Rattle.std.specs.Prelude.{ℕ, suc, ◌+◌, ◌≤◌, ◌<◌, ◌≡◌, true, List, [], ◌↔◌, length, None}
 use Rattle.refusal.specs.Refusals.{demand, out_of_range, no_frame}
 use Rattle.settings.specs.declared.Settings.{Settings}
 use Rattle.settings.specs.Settings.{in_range, one_frame}
@@ -99,7 +98,7 @@ pub record OnlyShown (p p' : Pool) (written written' : List ℕ) (t t' : Tally) 
 pub record WantsFrame (p : Pool) (page kind : ℕ) : Type 0 where
   pub reference : kind ≤ 2
   pub within : p.k < reference_limit
-  pub missed : find_page p.frames page ≡ Nothing
+  pub missed : find_page p.frames page ≡ None
   pub pinned : (i : ℕ) → i < p.settings.frames → 0 < (frame_at p.frames i).pins
 
 -- "refused for want of a frame": by 10

@@ -5,20 +5,19 @@ use mathlib.Core.List.{List}
 use Prim.Native.Nat.{ℕ, zero, suc, ◌≤◌}
 use native.Mathlib.Omega.{arith}
 use borrow.Author.Tests.{lt-ltb, ltb-true}
-use Rattle.search.specs.declared.Found.{Found}
-use Rattle.search.specs.declared.Found.TheVariants.{At, Nothing}
+use Rattle.std.specs.Prelude.{Option, Some, None}
 use Rattle.search.specs.Search.{one_if}
 use Rattle.search.proofs.Count.{one_few, count_none, count_suc}
 use Rattle.distance.specs.Distance.{distance_at, within, misses_to}
 use Rattle.distance.proofs.Stack.{by_test}
 
 -- fewer than f pages are fewer than g
-pub within_wider : (f g : ℕ) (distance : Found) → f ≤ g → within f distance ≡ true → within g distance ≡ true
-within_wider f g (At d) l h = let m = ltb-true d f h in lt-ltb d g (omega arith)
-within_wider f g Nothing l h = h
+pub within_wider : (f g : ℕ) (distance : Option ℕ) → f ≤ g → within f distance ≡ true → within g distance ≡ true
+within_wider f g (Some d) l h = let m = ltb-true d f h in lt-ltb d g (omega arith)
+within_wider f g None l h = h
 
 -- so what is no miss with f frames is none with g
-one_fewer : (f g : ℕ) (distance : Found) → f ≤ g → one_if (not (within g distance)) ≤ one_if (not (within f distance))
+one_fewer : (f g : ℕ) (distance : Option ℕ) → f ≤ g → one_if (not (within g distance)) ≤ one_if (not (within f distance))
 one_fewer f g distance l =
     by_test (within f distance) (λ e. rw (e, within_wider f g distance l e) (omega arith))
     (λ e. rw e (one_few (not (within g distance))))

@@ -8,8 +8,7 @@ use lib.ListN.{length, get_or, take, drop}
 use lib.Seq.{get_or-drop, take-suc, take-length, length-take-le}
 use lib.Dec.{eqb, ltb}
 use borrow.Author.Tests.{eq-eqb, ne_eqb, eqb-true, eqb-false, lt-ltb, le-ltb, ltb-true, ltb-false}
-use Rattle.search.specs.declared.Found.{Found}
-use Rattle.search.specs.declared.Found.TheVariants.{At, Nothing}
+use Rattle.std.specs.Prelude.{Option, Some, None}
 use Rattle.search.specs.Search.{pick, on_found, is_found, better, least_below, never, among, one_if}
 use Rattle.search.proofs.Among.{among_at}
 use Rattle.search.proofs.Every.{same_test}
@@ -20,18 +19,18 @@ use Rattle.distance.specs.ForCode.{deeper, place_in, Once, below}
 use Rattle.distance.proofs.Stack.{by_test, not_there, among_none, among_here, among_there, among_more, without_here, without_there, without_none, without_absent, without_length, without_other, without_from, recent_none, recent_suc}
 
 -- two places apart
-at_same : (a b : ℕ) → At a ≡ At b → a ≡ b
-at_same a b e = ap (λ (r : Found). on_found r (λ d. d) 0) e
+at_same : (a b : ℕ) → Some a ≡ Some b → a ≡ b
+at_same a b e = ap (λ (r : Option ℕ). on_found r (λ d. d) 0) e
 
-found_not : (a : ℕ) → At a ≡ Nothing → ⊥
+found_not : (a : ℕ) → Some a ≡ None → ⊥
 found_not a e = true≢false (ap is_found e)
 
 -- where the first is the page, and where it is not
-place_none : (x : ℕ) → place_in [] x ≡ Nothing
+place_none : (x : ℕ) → place_in [] x ≡ None
 unfolding place_in
 place_none x = refl
 
-place_here : (x y : ℕ) (ys : List ℕ) → eqb y x ≡ true → place_in (y ∷ ys) x ≡ At 0
+place_here : (x y : ℕ) (ys : List ℕ) → eqb y x ≡ true → place_in (y ∷ ys) x ≡ Some 0
 unfolding place_in
 place_here x y ys e = rw e
 
@@ -40,14 +39,14 @@ unfolding place_in
 place_there x y ys e = rw e
 
 -- tests one place further down
-lt_deeper : (r : Found) (f : ℕ) → within (suc f) (deeper r) ≡ within f r
-lt_deeper (At d) f =
+lt_deeper : (r : Option ℕ) (f : ℕ) → within (suc f) (deeper r) ≡ within f r
+lt_deeper (Some d) f =
     by_test (ltb d f) (λ h. let l = ltb-true d f h in lt-ltb (suc d) (suc f) (omega arith) ∙ sym h) (λ h. let l = ltb-false d f h in le-ltb (suc d) (suc f) (omega arith) ∙ sym h)
-lt_deeper Nothing f = refl
+lt_deeper None f = refl
 
-not_below : (r : Found) → within 0 r ≡ false
-not_below (At d) = le-ltb d 0 (omega arith)
-not_below Nothing = refl
+not_below : (r : Option ℕ) → within 0 r ≡ false
+not_below (Some d) = le-ltb d 0 (omega arith)
+not_below None = refl
 
 -- a page is among the first f exactly where its place is below f
 place_among : (f : ℕ) (l : List ℕ) (x : ℕ) → within f (place_in l x) ≡ among (take f l) x
@@ -58,16 +57,16 @@ place_among (suc f) (y ∷ ys) x =
     (λ e. rw (place_there x y ys e) (lt_deeper (place_in ys x) f ∙ place_among f ys x ∙ sym (among_there x y (take f ys) e)))
 
 -- a list that is cut tells each place below the cut
-below_deeper : (m : ℕ) (r : Found) → deeper (below m r) ≡ below (suc m) (deeper r)
-below_deeper m Nothing = refl
-below_deeper m (At d) =
+below_deeper : (m : ℕ) (r : Option ℕ) → deeper (below m r) ≡ below (suc m) (deeper r)
+below_deeper m None = refl
+below_deeper m (Some d) =
     by_test (ltb d m)
     (λ h. let l = ltb-true d m h in rw (h, lt-ltb (suc d) (suc m) (omega arith)))
     (λ h. let l = ltb-false d m h in rw (h, le-ltb (suc d) (suc m) (omega arith)))
 
-none_below : (r : Found) → Nothing ≡ below 0 r
-none_below Nothing = refl
-none_below (At d) = rw (le-ltb d 0 (omega arith))
+none_below : (r : Option ℕ) → None ≡ below 0 r
+none_below None = refl
+none_below (Some d) = rw (le-ltb d 0 (omega arith))
 
 pub place_cut : (m : ℕ) (l : List ℕ) (x : ℕ) → place_in (take m l) x ≡ below m (place_in l x)
 place_cut zero l x = place_none x ∙ none_below (place_in l x)
@@ -77,53 +76,53 @@ place_cut (suc m) (y ∷ ys) x =
     (λ e. rw (place_there x y ys e, place_there x y (take m ys) e) (ap deeper (place_cut m ys x) ∙ below_deeper m (place_in ys x)))
 
 -- one page more at the end
-snoc_deeper : (r : Found) (b : Bool) (n : ℕ) → deeper (on_found r At (pick b (At n) Nothing)) ≡ on_found (deeper r) At (pick b (At (suc n)) Nothing)
-snoc_deeper (At d) b n = refl
-snoc_deeper Nothing true n = refl
-snoc_deeper Nothing false n = refl
+snoc_deeper : (r : Option ℕ) (b : Bool) (n : ℕ) → deeper (on_found r Some (pick b (Some n) None)) ≡ on_found (deeper r) Some (pick b (Some (suc n)) None)
+snoc_deeper (Some d) b n = refl
+snoc_deeper None true n = refl
+snoc_deeper None false n = refl
 
-place_snoc : (l : List ℕ) (y x : ℕ) → place_in (l ++ (y ∷ [])) x ≡ on_found (place_in l x) At (pick (eqb y x) (At (length l)) Nothing)
+place_snoc : (l : List ℕ) (y x : ℕ) → place_in (l ++ (y ∷ [])) x ≡ on_found (place_in l x) Some (pick (eqb y x) (Some (length l)) None)
 unfolding place_in
 place_snoc [] y x = refl
 place_snoc (z ∷ zs) y x =
     by_test (eqb z x) (λ e. rw e)
     (λ e. rw e (ap deeper (place_snoc zs y x) ∙ snoc_deeper (place_in zs x) (eqb y x) (length zs)))
 
-offer_snoc : (r : Found) (b : Bool) (n : ℕ) → pick b (better never n r) r ≡ on_found r At (pick b (At n) Nothing)
-offer_snoc (At d) true n = refl
-offer_snoc (At d) false n = refl
-offer_snoc Nothing true n = refl
-offer_snoc Nothing false n = refl
+offer_snoc : (r : Option ℕ) (b : Bool) (n : ℕ) → pick b (better never n r) r ≡ on_found r Some (pick b (Some n) None)
+offer_snoc (Some d) true n = refl
+offer_snoc (Some d) false n = refl
+offer_snoc None true n = refl
+offer_snoc None false n = refl
 
 -- the place among the first n is what a search finds
 pub place_least : (l : List ℕ) (x n : ℕ) → n ≤ length l → least_below (λ j. eqb (get_or l j 0) x) never n ≡ place_in (take n l) x
 unfolding least_below
 place_least l x zero h = sym (place_none x)
 place_least l x (suc n) h =
-    ap (λ (r : Found). pick (eqb (get_or l n 0) x) (better never n r) r) (place_least l x n (omega arith))
+    ap (λ (r : Option ℕ). pick (eqb (get_or l n 0) x) (better never n r) r) (place_least l x n (omega arith))
     ∙ offer_snoc (place_in (take n l) x) (eqb (get_or l n 0) x) n
-    ∙ ap (λ (k : ℕ). on_found (place_in (take n l) x) At (pick (eqb (get_or l n 0) x) (At k) Nothing)) (sym (length-take-le n l (omega arith)))
+    ∙ ap (λ (k : ℕ). on_found (place_in (take n l) x) Some (pick (eqb (get_or l n 0) x) (Some k) None)) (sym (length-take-le n l (omega arith)))
     ∙ sym (place_snoc (take n l) (get_or l n 0) x)
     ∙ ap (λ (k : List ℕ). place_in k x) (sym (take-suc l n 0 h))
 
 -- a page that has no place is not in the list
-pub place_nowhere : (l : List ℕ) (x : ℕ) → place_in l x ≡ Nothing → among l x ≡ false
+pub place_nowhere : (l : List ℕ) (x : ℕ) → place_in l x ≡ None → among l x ≡ false
 place_nowhere l x h =
     ap (λ (k : List ℕ). among k x) (sym (take-length l)) ∙ sym (place_among (length l) l x) ∙ ap (within (length l)) h
 
 -- a page that has one is taken out there
-pub place_without : (l : List ℕ) (x d : ℕ) → place_in l x ≡ At d → (d < length l) × (without x l ≡ take d l ++ drop (suc d) l)
+pub place_without : (l : List ℕ) (x d : ℕ) → place_in l x ≡ Some d → (d < length l) × (without x l ≡ take d l ++ drop (suc d) l)
 place_without [] x d h = absurd (found_not d (sym h ∙ place_none x))
 place_without (y ∷ ys) x d h =
     by_test (eqb y x)
     (λ e. let q : d ≡ 0 = at_same d 0 (sym h ∙ place_here x y ys e) in rw q (omega arith, without_here x y ys e))
     (λ e. next (place_in ys x) refl (sym (place_there x y ys e) ∙ h) e (place_without ys x))
   where
-    next : (r : Found) → place_in ys x ≡ r → deeper (place_in ys x) ≡ At d → eqb y x ≡ false
-        → ((k : ℕ) → place_in ys x ≡ At k → (k < length ys) × (without x ys ≡ take k ys ++ drop (suc k) ys))
+    next : (r : Option ℕ) → place_in ys x ≡ r → deeper (place_in ys x) ≡ Some d → eqb y x ≡ false
+        → ((k : ℕ) → place_in ys x ≡ Some k → (k < length ys) × (without x ys ≡ take k ys ++ drop (suc k) ys))
         → (d < length (y ∷ ys)) × (without x (y ∷ ys) ≡ take d (y ∷ ys) ++ drop (suc d) (y ∷ ys))
-    next Nothing q g e before = absurd (found_not d (sym g ∙ ap deeper q))
-    next (At k) q g e before =
+    next None q g e before = absurd (found_not d (sym g ∙ ap deeper q))
+    next (Some k) q g e before =
         let s : d ≡ suc k = at_same d (suc k) (sym g ∙ ap deeper q) in
         let b = before k q in
         let l = b.0 in
@@ -152,13 +151,13 @@ take_once (suc n) (y ∷ ys) h =
         by_test (eqb z x) (λ e. among_here x z zs e) (λ e. among_more x z zs (among_cut n zs x (sym (among_there x z (take n zs) e) ∙ a)))
 
 -- a page that is not in a list has no place there, and behind a list without it its place is the list's length
-pub place_absent : (l : List ℕ) (x : ℕ) → among l x ≡ false → place_in l x ≡ Nothing
+pub place_absent : (l : List ℕ) (x : ℕ) → among l x ≡ false → place_in l x ≡ None
 place_absent [] x h = place_none x
 place_absent (y ∷ ys) x h =
     by_test (eqb y x) (λ e. absurd (true≢false (sym (among_here x y ys e) ∙ h)))
     (λ e. place_there x y ys e ∙ ap deeper (place_absent ys x (sym (among_there x y ys e) ∙ h)))
 
-place_behind : (l rest : List ℕ) (x : ℕ) → among l x ≡ false → place_in (l ++ (x ∷ rest)) x ≡ At (length l)
+place_behind : (l rest : List ℕ) (x : ℕ) → among l x ≡ false → place_in (l ++ (x ∷ rest)) x ≡ Some (length l)
 place_behind [] rest x h = place_here x x rest (eq-eqb x x refl)
 place_behind (y ∷ ys) rest x h =
     by_test (eqb y x) (λ e. absurd (true≢false (sym (among_here x y ys e) ∙ h)))
@@ -183,11 +182,11 @@ touched_among y x l =
     ∙ rw e)
 
 -- the last use, where one use more is it and where it is not
-use_none : (pages : List ℕ) (x : ℕ) → last_use pages x 0 ≡ Nothing
+use_none : (pages : List ℕ) (x : ℕ) → last_use pages x 0 ≡ None
 unfolding last_use
 use_none pages x = refl
 
-use_here : (pages : List ℕ) (x n : ℕ) → eqb (get_or pages n 0) x ≡ true → last_use pages x (suc n) ≡ At n
+use_here : (pages : List ℕ) (x n : ℕ) → eqb (get_or pages n 0) x ≡ true → last_use pages x (suc n) ≡ Some n
 unfolding last_use
 use_here pages x n e = rw e
 
@@ -247,9 +246,9 @@ recent_long pages (suc n) =
 pub record LastUse (pages : List ℕ) (x n m : ℕ) : Type 0 where
   pub before : m < n
   pub uses : get_or pages m 0 ≡ x
-  pub not_since : last_use (drop (suc m) pages) x (n - suc m) ≡ Nothing
+  pub not_since : last_use (drop (suc m) pages) x (n - suc m) ≡ None
 
-last_use_lem : (pages : List ℕ) (x n m : ℕ) → last_use pages x n ≡ At m → LastUse pages x n m
+last_use_lem : (pages : List ℕ) (x n m : ℕ) → last_use pages x n ≡ Some m → LastUse pages x n m
 last_use_lem pages x zero m h = absurd (found_not m (sym h ∙ use_none pages x))
 last_use_lem pages x (suc n) m h =
     by_test (eqb (get_or pages n 0) x)
@@ -272,13 +271,13 @@ module _ (pages : List ℕ) (m : ℕ) where
     rest : List ℕ
     is : recent pages (suc m + n) ≡ recent since n ++ (get_or pages m 0 ∷ rest)
 
-  unused : (n : ℕ) → last_use since (get_or pages m 0) (suc n) ≡ Nothing → (eqb (get_or since n 0) (get_or pages m 0) ≡ false) × (last_use since (get_or pages m 0) n ≡ Nothing)
+  unused : (n : ℕ) → last_use since (get_or pages m 0) (suc n) ≡ None → (eqb (get_or since n 0) (get_or pages m 0) ≡ false) × (last_use since (get_or pages m 0) n ≡ None)
   unused n h =
       by_test (eqb (get_or since n 0) (get_or pages m 0))
       (λ e. absurd (found_not n (sym (use_here since (get_or pages m 0) n e) ∙ h)))
       (λ e. (e, sym (use_before since (get_or pages m 0) n e) ∙ h))
 
-  split : (n : ℕ) → last_use since (get_or pages m 0) n ≡ Nothing → Split n
+  split : (n : ℕ) → last_use since (get_or pages m 0) n ≡ None → Split n
   split zero h = record {
     rest = without (get_or pages m 0) (recent pages m);
     is = let e : suc m + 0 ≡ suc m = omega arith in rw (e, recent_none since) (recent_suc pages m);
@@ -297,12 +296,12 @@ module _ (pages : List ℕ) (m : ℕ) where
             ∙ sym (ap (λ (l : List ℕ). l ++ (x ∷ behind y (recent since n) r.rest)) (recent_suc since n));
       }
 
-  place_since : (n : ℕ) → last_use since (get_or pages m 0) n ≡ Nothing → place_in (recent pages (suc m + n)) (get_or pages m 0) ≡ At (distinct_in since n)
+  place_since : (n : ℕ) → last_use since (get_or pages m 0) n ≡ None → place_in (recent pages (suc m + n)) (get_or pages m 0) ≡ Some (distinct_in since n)
   place_since n h =
       let r = split n h in
       ap (λ (l : List ℕ). place_in l (get_or pages m 0)) r.is
       ∙ place_behind (recent since n) r.rest (get_or pages m 0) (recent_used since n (get_or pages m 0) ∙ ap is_found h)
-      ∙ ap At (recent_long since n)
+      ∙ ap Some (recent_long since n)
 
 -- the distance is the page's place in the stack
 pub distance_place : (pages : List ℕ) (n : ℕ) → distance_at pages n ≡ place_in (recent pages n) (get_or pages n 0)
@@ -312,9 +311,9 @@ distance_place pages n = go (last_use pages (get_or pages n 0) n) refl
     x : ℕ
     x = get_or pages n 0
 
-    go : (r : Found) → last_use pages x n ≡ r → on_found r (λ m. At (distinct_in (drop (suc m) pages) (n - suc m))) Nothing ≡ place_in (recent pages n) x
-    go Nothing e = sym (place_absent (recent pages n) x (recent_used pages n x ∙ ap is_found e))
-    go (At m) e =
+    go : (r : Option ℕ) → last_use pages x n ≡ r → on_found r (λ m. Some (distinct_in (drop (suc m) pages) (n - suc m))) None ≡ place_in (recent pages n) x
+    go None e = sym (place_absent (recent pages n) x (recent_used pages n x ∙ ap is_found e))
+    go (Some m) e =
         let u = last_use_lem pages x n m e in
         let b = u.before in
         let k : suc m + (n - suc m) ≡ n = omega arith in

@@ -8,8 +8,7 @@ use lib.ListN.{length, get_or, drop, length-map, length-drop}
 use lib.Seq.{get_or-drop}
 use lib.Dec.{eqb}
 use borrow.Author.Tests.{eq-eqb, ne_eqb, eqb-true, eqb-false}
-use Rattle.search.specs.declared.Found.{Found}
-use Rattle.search.specs.declared.Found.TheVariants.{At, Nothing}
+use Rattle.std.specs.Prelude.{Option, Some, None}
 use Rattle.search.specs.Search.{pick, on_found, is_found}
 use Rattle.search.proofs.Count.{count_cong}
 use Rattle.distance.specs.Distance.{last_use, distinct_in, distance_at, within, misses_to, misses_at}
@@ -48,31 +47,31 @@ module _ (ρ : ℕ → ℕ) where
       rw (map_at pages n m, map_at pages j l) (by_test (eqb x y)
       (λ q. rw q (eq-eqb (ρ x) (ρ y) (ap ρ (eqb-true x y q))))
       (λ q. rw q (ne_eqb (ρ x) (ρ y) (λ w. eqb-false x y q (a n j m l w))))) in
-      ap (λ (b : Bool). pick b (At n) (last_use (map ρ pages) (get_or (map ρ pages) j 0) n)) e
-      ∙ ap (λ (r : Found). pick (eqb x y) (At n) r) (use_renamed pages j n a l (omega arith))
+      ap (λ (b : Bool). pick b (Some n) (last_use (map ρ pages) (get_or (map ρ pages) j 0) n)) e
+      ∙ ap (λ (r : Option ℕ). pick (eqb x y) (Some n) r) (use_renamed pages j n a l (omega arith))
 
   distinct_renamed : (pages : List ℕ) (n : ℕ) → Apart pages → n ≤ length pages → distinct_in (map ρ pages) n ≡ distinct_in pages n
   unfolding distinct_in
   distinct_renamed pages n a l =
       count_cong (λ i. not (is_found (last_use (map ρ pages) (get_or (map ρ pages) i 0) i))) (λ i. not (is_found (last_use pages (get_or pages i 0) i))) n
-      (λ i m. ap (λ (r : Found). not (is_found r)) (use_renamed pages i i a (omega arith) (omega arith)))
+      (λ i m. ap (λ (r : Option ℕ). not (is_found r)) (use_renamed pages i i a (omega arith) (omega arith)))
 
   pub distance_renamed : (pages : List ℕ) (n : ℕ) → Apart pages → n < length pages → distance_at (map ρ pages) n ≡ distance_at pages n
   unfolding distance_at
   distance_renamed pages n a l =
-      ap (λ (r : Found). on_found r (λ m. At (distinct_in (drop (suc m) (map ρ pages)) (n - suc m))) Nothing) (use_renamed pages n n a l (omega arith))
+      ap (λ (r : Option ℕ). on_found r (λ m. Some (distinct_in (drop (suc m) (map ρ pages)) (n - suc m))) None) (use_renamed pages n n a l (omega arith))
       ∙ go (last_use pages (get_or pages n 0) n)
     where
-      go : (r : Found) → on_found r (λ m. At (distinct_in (drop (suc m) (map ρ pages)) (n - suc m))) Nothing ≡ on_found r (λ m. At (distinct_in (drop (suc m) pages) (n - suc m))) Nothing
-      go Nothing = refl
-      go (At m) =
+      go : (r : Option ℕ) → on_found r (λ m. Some (distinct_in (drop (suc m) (map ρ pages)) (n - suc m))) None ≡ on_found r (λ m. Some (distinct_in (drop (suc m) pages) (n - suc m))) None
+      go None = refl
+      go (Some m) =
           let d = length-drop (suc m) pages in
-          ap (λ (k : List ℕ). At (distinct_in k (n - suc m))) (map_drop (suc m) pages)
-          ∙ ap At (distinct_renamed (drop (suc m) pages) (n - suc m) (drop_apart (suc m) pages a) (omega arith))
+          ap (λ (k : List ℕ). Some (distinct_in k (n - suc m))) (map_drop (suc m) pages)
+          ∙ ap Some (distinct_renamed (drop (suc m) pages) (n - suc m) (drop_apart (suc m) pages a) (omega arith))
 
   pub misses_renamed : (pages : List ℕ) (f : ℕ) → Apart pages → misses_at (map ρ pages) f ≡ misses_at pages f
   unfolding misses_to
   misses_renamed pages f a =
       ap (misses_to (map ρ pages) f) (length-map pages ρ)
       ∙ count_cong (λ i. not (within f (distance_at (map ρ pages) i))) (λ i. not (within f (distance_at pages i))) (length pages)
-      (λ i l. ap (λ (r : Found). not (within f r)) (distance_renamed pages i a l))
+      (λ i l. ap (λ (r : Option ℕ). not (within f r)) (distance_renamed pages i a l))

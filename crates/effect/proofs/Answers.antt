@@ -7,8 +7,7 @@ use Prim.Native.Nat.{ℕ, zero, suc, ◌+◌, ◌≤◌, ◌<◌}
 use native.Mathlib.Omega.{arith}
 use lib.Dec.{eqb, leb}
 use borrow.Author.Tests.{le-leb, lt-leb}
-use Rattle.search.specs.declared.Found.{Found}
-use Rattle.search.specs.declared.Found.TheVariants.{At, Nothing}
+use Rattle.std.specs.Prelude.{Option, Some, None}
 use Rattle.search.specs.Search.{never}
 use Rattle.search.proofs.Least.{least_none_of}
 use Rattle.search.proofs.Every.{pick_ind}
@@ -60,19 +59,19 @@ EveryPinned p = (i : ℕ) → i < p.settings.frames → ((frame_at p.frames i).u
 -- a missed page: accepted, or refused 10 where no frame is unused and the rule finds none
 module _ (p : Pool) (page : ℕ) (write pin : Bool) where
   abbrev NoneFound : Type 0
-  NoneFound = (miss_of p page write pin ≡ refusal p no_frame) × (lowest_unused p ≡ Nothing) × ((choice_of p).found ≡ Nothing)
+  NoneFound = (miss_of p page write pin ≡ refusal p no_frame) × (lowest_unused p ≡ None) × ((choice_of p).found ≡ None)
 
   pub miss_answers : Accepted p (miss_of p page write pin) ⊎ NoneFound
   miss_answers = go (lowest_unused p) refl
     where
-      chosen : (f : Found) → lowest_unused p ≡ Nothing → (choice_of p).found ≡ f → Accepted p (miss_of p page write pin) ⊎ NoneFound
-      chosen (At v) none e =
+      chosen : (f : Option ℕ) → lowest_unused p ≡ None → (choice_of p).found ≡ f → Accepted p (miss_of p page write pin) ⊎ NoneFound
+      chosen (Some v) none e =
           inl (subst (Accepted p) (sym (full p page write pin none ∙ victim p page write pin (choice_of p) v refl e)) (leaving_accepted p (left_by p (choice_of p)) v page write pin refl))
-      chosen Nothing none e = inr (full p page write pin none ∙ no_victim p page write pin e, none, e)
+      chosen None none e = inr (full p page write pin none ∙ no_victim p page write pin e, none, e)
 
-      go : (f : Found) → lowest_unused p ≡ f → Accepted p (miss_of p page write pin) ⊎ NoneFound
-      go (At i) e = inl (subst (Accepted p) (sym (free p page write pin i e)) (record { outcome = omega arith; k = filled_k p p i page write pin refl }))
-      go Nothing e = chosen (choice_of p).found e refl
+      go : (f : Option ℕ) → lowest_unused p ≡ f → Accepted p (miss_of p page write pin) ⊎ NoneFound
+      go (Some i) e = inl (subst (Accepted p) (sym (free p page write pin i e)) (record { outcome = omega arith; k = filled_k p p i page write pin refl }))
+      go None e = chosen (choice_of p).found e refl
 
   -- in a sound pool that is where every frame below f is in use and pinned
   module _ (s : Sound p) where
@@ -100,7 +99,7 @@ module _ (p : Pool) (page kind : ℕ) (l : kind ≤ 2) where
 
   module _ (room : p.k < reference_limit) where
     -- a resident page: accepted, or refused 12, and that exactly where it is to be pinned and its pin count is full
-    pub hit_answers : (i : ℕ) → find_page p.frames page ≡ At i
+    pub hit_answers : (i : ℕ) → find_page p.frames page ≡ Some i
         → ((eqb kind 2 && eqb (pins_at p i) pin_limit) ≡ true → record_of p page kind ≡ refusal p pins_full) × ((eqb kind 2 && eqb (pins_at p i) pin_limit) ≡ false → Accepted p (record_of p page kind))
     hit_answers i a =
         let e = kind_reference p page kind l ∙ resident p page (eqb kind 1) (eqb kind 2) i (lt-leb reference_limit p.k room) a in (
@@ -108,7 +107,7 @@ module _ (p : Pool) (page kind : ℕ) (l : kind ≤ 2) where
           λ t. subst (Accepted p) (sym (e ∙ pins_free p i (eqb kind 1) (eqb kind 2) t)) (hit_accepted p i (eqb kind 1) (eqb kind 2)),
         )
 
-    module _ (a : find_page p.frames page ≡ Nothing) where
+    module _ (a : find_page p.frames page ≡ None) where
       as_miss : record_of p page kind ≡ miss_of p page (eqb kind 1) (eqb kind 2)
       as_miss = kind_reference p page kind l ∙ absent p page (eqb kind 1) (eqb kind 2) (lt-leb reference_limit p.k room) a
 
@@ -147,14 +146,14 @@ module _ (p : Pool) (page : ℕ) where
       done : (e : Did) → reference_of p page write pin ≡ e → Accepted p e → Taken p (reference_of p page write pin)
       done e h q = inr (subst (Accepted p) (sym h) q)
 
-      pinned : (b : Bool) (i : ℕ) → leb reference_limit p.k ≡ false → find_page p.frames page ≡ At i → (pin && eqb (pins_at p i) pin_limit) ≡ b → Taken p (reference_of p page write pin)
+      pinned : (b : Bool) (i : ℕ) → leb reference_limit p.k ≡ false → find_page p.frames page ≡ Some i → (pin && eqb (pins_at p i) pin_limit) ≡ b → Taken p (reference_of p page write pin)
       pinned true i e a t = inl (record { number = pins_full; same = resident p page write pin i e a ∙ pins_full_lem p i write pin t })
       pinned false i e a t =
           done (did (row hit i 0 0) [] (pinned_where (hit_at p i write) pin i)) (resident p page write pin i e a ∙ pins_free p i write pin t) (hit_accepted p i write pin)
 
-      found : (f : Found) → leb reference_limit p.k ≡ false → find_page p.frames page ≡ f → Taken p (reference_of p page write pin)
-      found (At i) e a = pinned (pin && eqb (pins_at p i) pin_limit) i e a refl
-      found Nothing e a =
+      found : (f : Option ℕ) → leb reference_limit p.k ≡ false → find_page p.frames page ≡ f → Taken p (reference_of p page write pin)
+      found (Some i) e a = pinned (pin && eqb (pins_at p i) pin_limit) i e a refl
+      found None e a =
           ⊎_elim {C = Taken p (reference_of p page write pin)} (done (miss_of p page write pin) (absent p page write pin e a))
           (λ q. inl (record { number = no_frame; same = absent p page write pin e a ∙ q.0 })) (miss_answers p page write pin)
 
@@ -173,13 +172,13 @@ module _ (p : Pool) (page : ℕ) where
   unpin_answer : Answer p (unpin_of p page)
   unpin_answer = found (find_page p.frames page) refl
     where
-      pinned : (b : Bool) (i : ℕ) → find_page p.frames page ≡ At i → eqb (pins_at p i) 0 ≡ b → Answer p (unpin_of p page)
+      pinned : (b : Bool) (i : ℕ) → find_page p.frames page ≡ Some i → eqb (pins_at p i) 0 ≡ b → Answer p (unpin_of p page)
       pinned true i a t = inl (record { number = not_pinned; same = unpin_none p page i a t })
       pinned false i a t = inr (let m = ap (λ (x : Did). x.row.outcome) (unpin_one p page i a t) in omega arith)
 
-      found : (f : Found) → find_page p.frames page ≡ f → Answer p (unpin_of p page)
-      found (At i) a = pinned (eqb (pins_at p i) 0) i a refl
-      found Nothing a = inl (record { number = not_pinned; same = unpin_absent p page a })
+      found : (f : Option ℕ) → find_page p.frames page ≡ f → Answer p (unpin_of p page)
+      found (Some i) a = pinned (eqb (pins_at p i) 0) i a refl
+      found None a = inl (record { number = not_pinned; same = unpin_absent p page a })
 
   record_answer : (kind : ℕ) → Answer p (record_of p page kind)
   unfolding record_of

@@ -8,8 +8,7 @@ use lib.ListN.{length}
 use lib.Dec.{eqb, leb}
 use borrow.Author.Tests.{leb-false}
 use Rattle.refusal.specs.Refusals.{bad_field, no_reference_left, no_frame, not_pinned, pins_full}
-use Rattle.search.specs.declared.Found.{Found}
-use Rattle.search.specs.declared.Found.TheVariants.{At, Nothing}
+use Rattle.std.specs.Prelude.{Option, Some, None}
 use Rattle.search.specs.Search.{one_if}
 use Rattle.search.proofs.Every.{pick_ind}
 use Rattle.settings.specs.declared.Settings.{Settings}
@@ -88,8 +87,8 @@ module _ (p : Pool) (s : Sound p) (z : Sized p) (room : p.k < reference_limit) (
       (λ _. unwritten_kept p s z (one_if write) hit i (pinned_where (hit_at p i write) pin i)
       (pinned_held p (hit_at p i write) (dirty_in p.frames + one_if write) i pin l (hit_used p z i l write ∙ u) (hit_held i l u)))
 
-  module _ (page : ℕ) (miss : find_page p.frames page ≡ Nothing) where
-    free_kept : (i : ℕ) → lowest_unused p ≡ At i → i < 128 → Kept p (one_if write) (did (row miss_unused i 0 0) [] (filled p i page write pin))
+  module _ (page : ℕ) (miss : find_page p.frames page ≡ None) where
+    free_kept : (i : ℕ) → lowest_unused p ≡ Some i → i < 128 → Kept p (one_if write) (did (row miss_unused i 0 0) [] (filled p i page write pin))
     unfolding fetched_at referred
     free_kept i e l =
         unwritten_kept p s z (one_if write) miss_unused i (filled p i page write pin)
@@ -97,7 +96,7 @@ module _ (p : Pool) (s : Sound p) (z : Sized p) (room : p.k < reference_limit) (
         (record { sound = unused_sound p s z page miss room i write e; sized = unused_sized p s z page miss room i write e; settings = refl; few = fetch_spent p z i l page write }))
 
     -- victim v of a pool q as the rule leaves it
-    module _ (q : Pool) (v : ℕ) (none : lowest_unused p ≡ Nothing) (sq : Sound q) (zq : Sized q) (quiet : Quiet p q) (same : dirty_in q.frames ≡ dirty_in p.frames) (within : v < q.settings.frames) where
+    module _ (q : Pool) (v : ℕ) (none : lowest_unused p ≡ None) (sq : Sound q) (zq : Sized q) (quiet : Quiet p q) (same : dirty_in q.frames ≡ dirty_in p.frames) (within : v < q.settings.frames) where
       abbrev b : List ℕ
       b = batch_of q v
 
@@ -107,10 +106,10 @@ module _ (p : Pool) (s : Sound p) (z : Sized p) (room : p.k < reference_limit) (
       few_v : v < 128
       few_v = let f = (ranges q.settings sq.settings).frames.1 in omega arith
 
-      absent_r : find_page r.frames page ≡ Nothing
+      absent_r : find_page r.frames page ≡ None
       absent_r = quiet_find q r sq (cleaned_quiet q sq b) page ∙ quiet_find p q s quiet page ∙ miss
 
-      full_r : lowest_unused r ≡ Nothing
+      full_r : lowest_unused r ≡ None
       full_r = quiet_unused q r sq (cleaned_quiet q sq b) ∙ quiet_unused p q s quiet ∙ none
 
       room_r : r.k < reference_limit
@@ -139,25 +138,25 @@ module _ (p : Pool) (s : Sound p) (z : Sized p) (room : p.k < reference_limit) (
     miss_kept : Kept p (one_if write) (miss_of p page write pin)
     miss_kept = go (lowest_unused p) refl
       where
-        chosen : (f : Found) → lowest_unused p ≡ Nothing → (choice_of p).found ≡ f → Kept p (one_if write) (eviction_of p page write pin)
-        chosen (At v) none e =
+        chosen : (f : Option ℕ) → lowest_unused p ≡ None → (choice_of p).found ≡ f → Kept p (one_if write) (eviction_of p page write pin)
+        chosen (Some v) none e =
             subst (Kept p (one_if write)) (sym (victim p page write pin (choice_of p) v refl e))
             (leaving_kept (left_by p (choice_of p)) v none (choice_owes.sound p s) (choice_sized p z) (choice_owes.quiet p s) (choice_spent p) (choice_owes.unpinned p v s e).0)
-        chosen Nothing none e = subst (Kept p (one_if write)) (sym (no_victim p page write pin e)) (refusal_kept p s z (one_if write) no_frame)
+        chosen None none e = subst (Kept p (one_if write)) (sym (no_victim p page write pin e)) (refusal_kept p s z (one_if write) no_frame)
 
-        go : (f : Found) → lowest_unused p ≡ f → Kept p (one_if write) (miss_of p page write pin)
-        go (At i) e = subst (Kept p (one_if write)) (sym (free p page write pin i e)) (free_kept i e (unused_few p i (made p s) e))
-        go Nothing e = subst (Kept p (one_if write)) (sym (full p page write pin e)) (chosen (choice_of p).found e refl)
+        go : (f : Option ℕ) → lowest_unused p ≡ f → Kept p (one_if write) (miss_of p page write pin)
+        go (Some i) e = subst (Kept p (one_if write)) (sym (free p page write pin i e)) (free_kept i e (unused_few p i (made p s) e))
+        go None e = subst (Kept p (one_if write)) (sym (full p page write pin e)) (chosen (choice_of p).found e refl)
 
 module _ (p : Pool) (s : Sound p) (z : Sized p) (page : ℕ) where
   reference_kept : (write pin : Bool) → Kept p (one_if write) (reference_of p page write pin)
   reference_kept write pin = go (leb reference_limit p.k) refl
     where
-      found : (f : Found) → leb reference_limit p.k ≡ false → find_page p.frames page ≡ f → Kept p (one_if write) (reference_of p page write pin)
-      found (At i) e a =
+      found : (f : Option ℕ) → leb reference_limit p.k ≡ false → find_page p.frames page ≡ f → Kept p (one_if write) (reference_of p page write pin)
+      found (Some i) e a =
           let u = find_used p s page i a in
           subst (Kept p (one_if write)) (sym (resident p page write pin i e a)) (hit_kept p s z (leb-false reference_limit p.k e) write pin i u.0 u.1)
-      found Nothing e a = subst (Kept p (one_if write)) (sym (absent p page write pin e a)) (miss_kept p s z (leb-false reference_limit p.k e) write pin page a)
+      found None e a = subst (Kept p (one_if write)) (sym (absent p page write pin e a)) (miss_kept p s z (leb-false reference_limit p.k e) write pin page a)
 
       go : (b : Bool) → leb reference_limit p.k ≡ b → Kept p (one_if write) (reference_of p page write pin)
       go true e = subst (Kept p (one_if write)) (sym (at_limit p page write pin e)) (refusal_kept p s z (one_if write) no_reference_left)
@@ -166,16 +165,16 @@ module _ (p : Pool) (s : Sound p) (z : Sized p) (page : ℕ) where
   unpin_kept : Kept p 0 (unpin_of p page)
   unpin_kept = go (find_page p.frames page) refl
     where
-      pinned : (b : Bool) (i : ℕ) → find_page p.frames page ≡ At i → eqb (pins_at p i) 0 ≡ b → Kept p 0 (unpin_of p page)
+      pinned : (b : Bool) (i : ℕ) → find_page p.frames page ≡ Some i → eqb (pins_at p i) 0 ≡ b → Kept p 0 (unpin_of p page)
       pinned true i a e = subst (Kept p 0) (sym (unpin_none p page i a e)) (refusal_kept p s z 0 not_pinned)
       pinned false i a e =
           let u = find_used p s page i a in
           subst (Kept p 0) (sym (unpin_one p page i a e))
           (unwritten_kept p s z 0 unpin_done i (unpinned_at p i) (unpinned_held p s z i u.0 u.1))
 
-      go : (f : Found) → find_page p.frames page ≡ f → Kept p 0 (unpin_of p page)
-      go (At i) a = pinned (eqb (pins_at p i) 0) i a refl
-      go Nothing a = subst (Kept p 0) (sym (unpin_absent p page a)) (refusal_kept p s z 0 not_pinned)
+      go : (f : Option ℕ) → find_page p.frames page ≡ f → Kept p 0 (unpin_of p page)
+      go (Some i) a = pinned (eqb (pins_at p i) 0) i a refl
+      go None a = subst (Kept p 0) (sym (unpin_absent p page a)) (refusal_kept p s z 0 not_pinned)
 
   -- every record keeps a sound pool sound
   pub record_kept : (kind : ℕ) → Kept p (one_if (eqb kind 1)) (record_of p page kind)

@@ -5,7 +5,7 @@ use mathlib.Core.List.{List}
 use Prim.Native.Nat.{ℕ, ◌+◌, ◌≤◌, ◌<◌}
 use native.Mathlib.Omega.{arith}
 use lib.ListN.{length}
-use Rattle.search.specs.declared.Found.TheVariants.{At, Nothing}
+use Rattle.std.specs.Prelude.{Some, None}
 use Rattle.search.specs.Search.{pick}
 use Rattle.refusal.specs.Refusals.{no_frame}
 use Rattle.settings.proofs.Laws.{ranges}
@@ -33,25 +33,25 @@ module _ (p : Pool) (s : sound_pool p ≡ true) (at places : ℕ) (c : Choice) (
   sound = told p s
 
   -- the victim is a frame
-  pub chosen_few : (v : ℕ) → c.found ≡ At v → v < 128
+  pub chosen_few : (v : ℕ) → c.found ≡ Some v → v < 128
   chosen_few v a =
-      let o = (choice_owes.unpinned p v sound (subst (λ (x : Choice). x.found ≡ At v) e a)).0 in
+      let o = (choice_owes.unpinned p v sound (subst (λ (x : Choice). x.found ≡ Some v) e a)).0 in
       let f = (ranges p.settings sound.settings).frames.1 in
       omega arith
 
   still_sound : Sound (left_by p c)
   still_sound = subst (λ (x : Choice). Sound (left_by p x)) (sym e) (choice_owes.sound p sound)
 
-  room_length : (v : ℕ) → (choice_of p).found ≡ At v → length (room_pages p) ≡ length (batch_of (left_by p (choice_of p)) v)
+  room_length : (v : ℕ) → (choice_of p).found ≡ Some v → length (room_pages p) ≡ length (batch_of (left_by p (choice_of p)) v)
   unfolding room_pages
   room_length v a = rw a (pages_length (choice_of p).frames (batch_of (left_by p (choice_of p)) v))
 
-  pub chosen_batchable : (v : ℕ) → c.found ≡ At v → at + length (room_pages p) ≤ places → Batchable (left_by p c) v at places
+  pub chosen_batchable : (v : ℕ) → c.found ≡ Some v → at + length (room_pages p) ≤ places → Batchable (left_by p c) v at places
   chosen_batchable v a room = record {
     sound = made (left_by p c) still_sound;
     frame = chosen_few v a;
     room =
-        let n = room_length v (subst (λ (x : Choice). x.found ≡ At v) e a) in
+        let n = room_length v (subst (λ (x : Choice). x.found ≡ Some v) e a) in
         let m = ap (λ (x : Choice). length (batch_of (left_by p x) v)) e in
         omega arith;
   }
@@ -59,13 +59,13 @@ module _ (p : Pool) (s : sound_pool p ≡ true) (at places : ℕ) (c : Choice) (
   pub chosen_short : (v : ℕ) → length (batch_of (left_by p c) v) < 128
   chosen_short v = let n = batch_length (left_by p c) still_sound v in let r = (ranges p.settings sound.settings).batch.1 in omega arith
 
-  pub room_made : (v n : ℕ) (fr : Frame) (w : Row) (t' before after : List ℕ) → c.found ≡ At v → WrittenBy (left_by p c) v at n t' before after → fr ≡ frame_at c.frames v
+  pub room_made : (v n : ℕ) (fr : Frame) (w : Row) (t' before after : List ℕ) → c.found ≡ Some v → WrittenBy (left_by p c) v at n t' before after → fr ≡ frame_at c.frames v
       → w ≡ row (pick fr.dirty miss_dirty miss_clean) v fr.page n
       → RoomMade p at (record { row = w; head = head_of (left_by p c) }) t' before after
   unfolding room_row room_pages room_frames
   room_made v n fr w t' before after a h d x =
       let l = chosen_few v a in
-      let f = subst (λ (y : Choice). y.found ≡ At v) e a in
+      let f = subst (λ (y : Choice). y.found ≡ Some v) e a in
       record {
         row = x ∙ rw (d, h.counted, e, f);
         pool = rw (h.frames, e, f);
@@ -73,11 +73,11 @@ module _ (p : Pool) (s : sound_pool p ≡ true) (at places : ℕ) (c : Choice) (
         frame = rw x l;
       }
 
-  pub room_none : (w : Row) (t list : List ℕ) → c.found ≡ Nothing → frames_in t ≡ c.frames → w ≡ refused_row no_frame
+  pub room_none : (w : Row) (t list : List ℕ) → c.found ≡ None → frames_in t ≡ c.frames → w ≡ refused_row no_frame
       → RoomMade p at (record { row = w; head = head_of (left_by p c) }) t list list
   unfolding room_row room_pages room_frames
   room_none w t list a d x =
-      let f = subst (λ (y : Choice). y.found ≡ Nothing) e a in
+      let f = subst (λ (y : Choice). y.found ≡ None) e a in
       record {
         row = x ∙ rw f;
         pool = rw (d, e, f);

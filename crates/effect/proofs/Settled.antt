@@ -5,8 +5,7 @@ use mathlib.Core.Bool.{Bool, true, false, ◌&&◌}
 use Prim.Native.Nat.{ℕ, zero, suc, ◌≤◌, ◌<◌}
 use native.Mathlib.Omega.{arith}
 use lib.Dec.{eqb, leb}
-use Rattle.search.specs.declared.Found.{Found}
-use Rattle.search.specs.declared.Found.TheVariants.{At, Nothing}
+use Rattle.std.specs.Prelude.{Option, Some, None}
 use Rattle.refusal.specs.Refusals.{bad_field, no_reference_left, not_pinned, pins_full}
 use Rattle.pool.specs.declared.Frame.{Frame}
 use Rattle.pool.specs.declared.Pool.{Pool}
@@ -34,34 +33,34 @@ module _ (w : Row) where
   pub hit_free : (pins i : ℕ) (pin : Bool) → (pin && eqb pins pin_limit) ≡ false → i < 128 → w ≡ row hit i 0 0 → Settles w (settled_hit pins i pin)
   hit_free pins i pin t l e = settles w (row hit i 0 0) (settled_hit pins i pin) e l (rw t)
 
-  pub miss_free : (f : Found) (i : ℕ) → f ≡ At i → i < 128 → w ≡ row miss_unused i 0 0 → Settles w (settled_miss f)
+  pub miss_free : (f : Option ℕ) (i : ℕ) → f ≡ Some i → i < 128 → w ≡ row miss_unused i 0 0 → Settles w (settled_miss f)
   miss_free f i a l e = settles w (row miss_unused i 0 0) (settled_miss f) e l (rw a)
 
-  pub miss_full : (f : Found) → f ≡ Nothing → w ≡ row miss_clean 0 0 0 → Settles w (settled_miss f)
+  pub miss_full : (f : Option ℕ) → f ≡ None → w ≡ row miss_clean 0 0 0 → Settles w (settled_miss f)
   miss_full f a e = settles w (row miss_clean 0 0 0) (settled_miss f) e (omega arith) (rw a)
 
-module _ (k pins : ℕ) (found free : Found) (w : Row) where
+module _ (k pins : ℕ) (found free : Option ℕ) (w : Row) where
   pub settle_limit : (pin : Bool) → leb reference_limit k ≡ true → w ≡ refused_row no_reference_left → Settles w (settled_reference k found pins free pin)
   unfolding settled_reference
   settle_limit pin t e = settles w (refused_row no_reference_left) (settled_reference k found pins free pin) e (omega arith) (rw t)
 
-  pub settle_resident : (pin : Bool) (i : ℕ) → leb reference_limit k ≡ false → found ≡ At i → Settles w (settled_hit pins i pin) → Settles w (settled_reference k found pins free pin)
+  pub settle_resident : (pin : Bool) (i : ℕ) → leb reference_limit k ≡ false → found ≡ Some i → Settles w (settled_hit pins i pin) → Settles w (settled_reference k found pins free pin)
   unfolding settled_reference
   settle_resident pin i t a e = (e.0 ∙ rw (t, a), e.1)
 
-  pub settle_absent : (pin : Bool) → leb reference_limit k ≡ false → found ≡ Nothing → Settles w (settled_miss free) → Settles w (settled_reference k found pins free pin)
+  pub settle_absent : (pin : Bool) → leb reference_limit k ≡ false → found ≡ None → Settles w (settled_miss free) → Settles w (settled_reference k found pins free pin)
   unfolding settled_reference
   settle_absent pin t a e = (e.0 ∙ rw (t, a), e.1)
 
-  pub unpin_away : found ≡ Nothing → w ≡ refused_row not_pinned → Settles w (settled_unpin found pins)
+  pub unpin_away : found ≡ None → w ≡ refused_row not_pinned → Settles w (settled_unpin found pins)
   unfolding settled_unpin
   unpin_away a e = settles w (refused_row not_pinned) (settled_unpin found pins) e (omega arith) (rw a)
 
-  pub unpin_free : (i : ℕ) → found ≡ At i → eqb pins 0 ≡ true → w ≡ refused_row not_pinned → Settles w (settled_unpin found pins)
+  pub unpin_free : (i : ℕ) → found ≡ Some i → eqb pins 0 ≡ true → w ≡ refused_row not_pinned → Settles w (settled_unpin found pins)
   unfolding settled_unpin
   unpin_free i a t e = settles w (refused_row not_pinned) (settled_unpin found pins) e (omega arith) (rw (a, t))
 
-  pub unpin_held : (i : ℕ) → found ≡ At i → eqb pins 0 ≡ false → i < 128 → w ≡ row unpin_done i 0 0 → Settles w (settled_unpin found pins)
+  pub unpin_held : (i : ℕ) → found ≡ Some i → eqb pins 0 ≡ false → i < 128 → w ≡ row unpin_done i 0 0 → Settles w (settled_unpin found pins)
   unfolding settled_unpin
   unpin_held i a t l e = settles w (row unpin_done i 0 0) (settled_unpin found pins) e l (rw (a, t))
 
@@ -88,10 +87,10 @@ asked_bad (suc (suc (suc zero))) l = absurd (omega arith)
 asked_bad (suc (suc (suc (suc kind)))) l = refl
 
 -- what was found in a sound pool is a frame
-pub found_framed : (fs : List Frame) (page : ℕ) (found : Found) → found ≡ find_page fs page → Framed found
+pub found_framed : (fs : List Frame) (page : ℕ) (found : Option ℕ) → found ≡ find_page fs page → Framed found
 found_framed fs page found e i h = found_few fs page i (sym e ∙ h)
 
-pub free_framed : (p : Pool) (free : Found) → sound_pool p ≡ true → free ≡ lowest_unused p → Framed free
+pub free_framed : (p : Pool) (free : Option ℕ) → sound_pool p ≡ true → free ≡ lowest_unused p → Framed free
 free_framed p free s e i h = unused_few p i s (sym e ∙ h)
 
 -- the row, but where a victim is wanted
@@ -99,6 +98,6 @@ abbrev pub settled_of : Pool → ℕ → ℕ → Row
 settled_of p page kind = settled_by p.k (find_page p.frames page) (pins_at p (place_of (find_page p.frames page))) (lowest_unused p) (asked_by kind)
 
 -- the row of a record from what was found in its pool
-pub settled_is : (p : Pool) (page kind pins : ℕ) (asks : Asked) (found free : Found) (w : Row) → asks ≡ asked_by kind → found ≡ find_page p.frames page → free ≡ lowest_unused p
+pub settled_is : (p : Pool) (page kind pins : ℕ) (asks : Asked) (found free : Option ℕ) (w : Row) → asks ≡ asked_by kind → found ≡ find_page p.frames page → free ≡ lowest_unused p
     → pins ≡ pins_at p (place_of found) → w ≡ settled_by p.k found pins free asks → w ≡ settled_of p page kind
 settled_is p page kind pins asks found free w q a b c e = e ∙ rw (c, b, a, q)

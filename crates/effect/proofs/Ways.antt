@@ -5,7 +5,7 @@ use mathlib.Core.List.{List, []}
 use Prim.Native.Nat.{ℕ, ◌<◌}
 use native.Mathlib.Omega.{arith}
 use lib.Dec.{eqb, leb}
-use Rattle.search.specs.declared.Found.TheVariants.{At, Nothing}
+use Rattle.std.specs.Prelude.{Some, None}
 use Rattle.search.specs.Search.{never}
 use Rattle.search.proofs.Least.{least_sound}
 use Rattle.settings.proofs.Laws.{ranges}
@@ -27,27 +27,27 @@ module _ (p : Pool) (page : ℕ) (write pin : Bool) where
   unfolding reference_of
   at_limit e = rw e
 
-  pub resident : (i : ℕ) → leb reference_limit p.k ≡ false → find_page p.frames page ≡ At i → reference_of p page write pin ≡ hit_of p i write pin
+  pub resident : (i : ℕ) → leb reference_limit p.k ≡ false → find_page p.frames page ≡ Some i → reference_of p page write pin ≡ hit_of p i write pin
   unfolding reference_of
   resident i e a = rw (e, a)
 
-  pub absent : leb reference_limit p.k ≡ false → find_page p.frames page ≡ Nothing → reference_of p page write pin ≡ miss_of p page write pin
+  pub absent : leb reference_limit p.k ≡ false → find_page p.frames page ≡ None → reference_of p page write pin ≡ miss_of p page write pin
   unfolding reference_of
   absent e a = rw (e, a)
 
-  pub free : (i : ℕ) → lowest_unused p ≡ At i → miss_of p page write pin ≡ did (row miss_unused i 0 0) [] (filled p i page write pin)
+  pub free : (i : ℕ) → lowest_unused p ≡ Some i → miss_of p page write pin ≡ did (row miss_unused i 0 0) [] (filled p i page write pin)
   unfolding miss_of
   free i a = rw a
 
-  pub full : lowest_unused p ≡ Nothing → miss_of p page write pin ≡ eviction_of p page write pin
+  pub full : lowest_unused p ≡ None → miss_of p page write pin ≡ eviction_of p page write pin
   unfolding miss_of
   full a = rw a
 
-  pub victim : (c : Choice) (v : ℕ) → c ≡ choice_of p → c.found ≡ At v → eviction_of p page write pin ≡ leaving_of (left_by p c) v page write pin
+  pub victim : (c : Choice) (v : ℕ) → c ≡ choice_of p → c.found ≡ Some v → eviction_of p page write pin ≡ leaving_of (left_by p c) v page write pin
   unfolding eviction_of
   victim c v e a = rw (← e, a)
 
-  pub no_victim : (choice_of p).found ≡ Nothing → eviction_of p page write pin ≡ refusal p no_frame
+  pub no_victim : (choice_of p).found ≡ None → eviction_of p page write pin ≡ refusal p no_frame
   unfolding eviction_of
   no_victim a = rw a
 
@@ -61,24 +61,24 @@ module _ (p : Pool) (i : ℕ) (write pin : Bool) where
   pins_free e = rw e
 
 module _ (p : Pool) (page : ℕ) where
-  pub unpin_absent : find_page p.frames page ≡ Nothing → unpin_of p page ≡ refusal p not_pinned
+  pub unpin_absent : find_page p.frames page ≡ None → unpin_of p page ≡ refusal p not_pinned
   unfolding unpin_of
   unpin_absent a = rw a
 
-  pub unpin_none : (i : ℕ) → find_page p.frames page ≡ At i → eqb (pins_at p i) 0 ≡ true → unpin_of p page ≡ refusal p not_pinned
+  pub unpin_none : (i : ℕ) → find_page p.frames page ≡ Some i → eqb (pins_at p i) 0 ≡ true → unpin_of p page ≡ refusal p not_pinned
   unfolding unpin_of
   unpin_none i a e = rw (a, e)
 
-  pub unpin_one : (i : ℕ) → find_page p.frames page ≡ At i → eqb (pins_at p i) 0 ≡ false → unpin_of p page ≡ did (row unpin_done i 0 0) [] (unpinned_at p i)
+  pub unpin_one : (i : ℕ) → find_page p.frames page ≡ Some i → eqb (pins_at p i) 0 ≡ false → unpin_of p page ≡ did (row unpin_done i 0 0) [] (unpinned_at p i)
   unfolding unpin_of
   unpin_one i a e = rw (a, e)
 
 -- what is found is a frame
-pub found_few : (fs : List Frame) (page i : ℕ) → find_page fs page ≡ At i → i < 128
+pub found_few : (fs : List Frame) (page i : ℕ) → find_page fs page ≡ Some i → i < 128
 unfolding find_page
 found_few fs page i e = (least_sound (has fs page) never 128 i e).0
 
-pub unused_few : (p : Pool) (i : ℕ) → sound_pool p ≡ true → lowest_unused p ≡ At i → i < 128
+pub unused_few : (p : Pool) (i : ℕ) → sound_pool p ≡ true → lowest_unused p ≡ Some i → i < 128
 unfolding lowest_unused
 unused_few p i s e =
     let l = (least_sound (unused p.frames) never p.settings.frames i e).0 in

@@ -8,8 +8,7 @@ use lib.ListN.{length}
 use lib.Seq.{sets}
 use lib.Dec.{eqb, leb}
 use borrow.Author.Tests.{eqb-true, eqb-false}
-use Rattle.search.specs.declared.Found.{Found}
-use Rattle.search.specs.declared.Found.TheVariants.{At, Nothing}
+use Rattle.std.specs.Prelude.{Option, Some, None}
 use Rattle.search.specs.Search.{pick, on_found}
 use Rattle.search.proofs.Every.{pick_ind}
 use Rattle.refusal.specs.Refusals.{bad_field, no_reference_left, no_frame, not_pinned, pins_full}
@@ -59,7 +58,7 @@ module _ (p : Pool) (s : Sound p) (z : Sized p) (page : ℕ) (asks : Asked) wher
   refused_way r = settled_way (refused_row r) (refusal p r) (λ e. omega arith) refl (entered_none p (100 + r) page asks (omega arith)) refl
 
   -- making room
-  room_found : (v : ℕ) → (choice_of p).found ≡ At v → Works (leaving_of (left_by p (choice_of p)) v page asks.write asks.pin) (roomed p) (room_row p) (room_pages p) page asks
+  room_found : (v : ℕ) → (choice_of p).found ≡ Some v → Works (leaving_of (left_by p (choice_of p)) v page asks.write asks.pin) (roomed p) (room_row p) (room_pages p) page asks
   unfolding leaving_of room_row room_pages room_frames
   room_found v e =
       let q = left_by p (choice_of p) in
@@ -72,16 +71,16 @@ module _ (p : Pool) (s : Sound p) (z : Sized p) (page : ℕ) (asks : Asked) wher
         written = rw e;
       }
 
-  room_none : (choice_of p).found ≡ Nothing → Works (refusal p no_frame) (roomed p) (room_row p) (room_pages p) page asks
+  room_none : (choice_of p).found ≡ None → Works (refusal p no_frame) (roomed p) (room_row p) (room_pages p) page asks
   unfolding room_row room_pages room_frames
   room_none e = record { row = rw e; pool = rw (e, choice_owes.still p e) (entered_none p 110 page asks (omega arith)); written = rw e }
 
   room_works : Works (eviction_of p page asks.write asks.pin) (roomed p) (room_row p) (room_pages p) page asks
   room_works = go (choice_of p).found refl
     where
-      go : (f : Found) → (choice_of p).found ≡ f → Works (eviction_of p page asks.write asks.pin) (roomed p) (room_row p) (room_pages p) page asks
-      go (At v) e = subst (λ (d : Did). Works d (roomed p) (room_row p) (room_pages p) page asks) (sym (victim p page asks.write asks.pin (choice_of p) v refl e)) (room_found v e)
-      go Nothing e = subst (λ (d : Did). Works d (roomed p) (room_row p) (room_pages p) page asks) (sym (no_victim p page asks.write asks.pin e)) (room_none e)
+      go : (f : Option ℕ) → (choice_of p).found ≡ f → Works (eviction_of p page asks.write asks.pin) (roomed p) (room_row p) (room_pages p) page asks
+      go (Some v) e = subst (λ (d : Did). Works d (roomed p) (room_row p) (room_pages p) page asks) (sym (victim p page asks.write asks.pin (choice_of p) v refl e)) (room_found v e)
+      go None e = subst (λ (d : Did). Works d (roomed p) (room_row p) (room_pages p) page asks) (sym (no_victim p page asks.write asks.pin e)) (room_none e)
 
   -- a way carries over to equal rows and effects
   same_way : (d e : Did) (w v : Row) → d ≡ e → w ≡ v → Way p e v page asks → Way p d w page asks
@@ -105,15 +104,15 @@ module _ (p : Pool) (s : Sound p) (z : Sized p) (page : ℕ) (asks : Asked) wher
   miss_way : Way p (miss_of p page write pin) (settled_miss (lowest_unused p)) page asks
   miss_way = go (lowest_unused p) refl
     where
-      go : (f : Found) → lowest_unused p ≡ f → Way p (miss_of p page write pin) (settled_miss (lowest_unused p)) page asks
-      go (At i) e =
+      go : (f : Option ℕ) → lowest_unused p ≡ f → Way p (miss_of p page write pin) (settled_miss (lowest_unused p)) page asks
+      go (Some i) e =
           same_way (miss_of p page write pin) (did (row miss_unused i 0 0) [] (filled p i page write pin)) (settled_miss (lowest_unused p)) (row miss_unused i 0 0) (free p page write pin i e) (rw e)
           (settled_way (row miss_unused i 0 0) (did (row miss_unused i 0 0) [] (filled p i page write pin)) (λ q. omega arith) refl (entered_free p z i (unused_few p i (made p s) e) page asks) refl)
-      go Nothing e =
+      go None e =
           same_way (miss_of p page write pin) (eviction_of p page write pin) (settled_miss (lowest_unused p)) (row miss_clean 0 0 0) (full p page write pin e) (rw e)
           (λ ne. absurd (ne refl), λ _. room_works)
 
-  abbrev place : Found
+  abbrev place : Option ℕ
   place = find_page p.frames page
 
   abbrev settled_ref : Row
@@ -123,9 +122,9 @@ module _ (p : Pool) (s : Sound p) (z : Sized p) (page : ℕ) (asks : Asked) wher
   unfolding settled_reference
   reference_way = limited (leb reference_limit p.k) refl
     where
-      found : (f : Found) → leb reference_limit p.k ≡ false → place ≡ f → Way p (reference_of p page write pin) settled_ref page asks
-      found (At i) e a = same_way (reference_of p page write pin) (hit_of p i write pin) settled_ref (settled_hit (pins_at p i) i pin) (resident p page write pin i e a) (rw (e, a)) (hit_way i (found_few p.frames page i a))
-      found Nothing e a = same_way (reference_of p page write pin) (miss_of p page write pin) settled_ref (settled_miss (lowest_unused p)) (absent p page write pin e a) (rw (e, a)) miss_way
+      found : (f : Option ℕ) → leb reference_limit p.k ≡ false → place ≡ f → Way p (reference_of p page write pin) settled_ref page asks
+      found (Some i) e a = same_way (reference_of p page write pin) (hit_of p i write pin) settled_ref (settled_hit (pins_at p i) i pin) (resident p page write pin i e a) (rw (e, a)) (hit_way i (found_few p.frames page i a))
+      found None e a = same_way (reference_of p page write pin) (miss_of p page write pin) settled_ref (settled_miss (lowest_unused p)) (absent p page write pin e a) (rw (e, a)) miss_way
 
       limited : (b : Bool) → leb reference_limit p.k ≡ b → Way p (reference_of p page write pin) settled_ref page asks
       limited true e = same_way (reference_of p page write pin) (refusal p no_reference_left) settled_ref (refused_row no_reference_left) (at_limit p page write pin e) (rw e) (refused_way no_reference_left)
@@ -138,15 +137,15 @@ module _ (p : Pool) (s : Sound p) (z : Sized p) (page : ℕ) (asks : Asked) wher
   unfolding settled_unpin
   unpin_way = found place refl
     where
-      pinned : (b : Bool) (i : ℕ) → place ≡ At i → eqb (pins_at p i) 0 ≡ b → Way p (unpin_of p page) settled_off page asks
+      pinned : (b : Bool) (i : ℕ) → place ≡ Some i → eqb (pins_at p i) 0 ≡ b → Way p (unpin_of p page) settled_off page asks
       pinned true i a e = same_way (unpin_of p page) (refusal p not_pinned) settled_off (refused_row not_pinned) (unpin_none p page i a e) (rw (a, e)) (refused_way not_pinned)
       pinned false i a e =
           same_way (unpin_of p page) (did (row unpin_done i 0 0) [] (unpinned_at p i)) settled_off (row unpin_done i 0 0) (unpin_one p page i a e) (rw (a, e))
           (settled_way (row unpin_done i 0 0) (did (row unpin_done i 0 0) [] (unpinned_at p i)) (λ q. omega arith) refl (entered_unpin p i page asks) refl)
 
-      found : (f : Found) → place ≡ f → Way p (unpin_of p page) settled_off page asks
-      found (At i) a = pinned (eqb (pins_at p i) 0) i a refl
-      found Nothing a = same_way (unpin_of p page) (refusal p not_pinned) settled_off (refused_row not_pinned) (unpin_absent p page a) (rw a) (refused_way not_pinned)
+      found : (f : Option ℕ) → place ≡ f → Way p (unpin_of p page) settled_off page asks
+      found (Some i) a = pinned (eqb (pins_at p i) 0) i a refl
+      found None a = same_way (unpin_of p page) (refusal p not_pinned) settled_off (refused_row not_pinned) (unpin_absent p page a) (rw a) (refused_way not_pinned)
 
 record_way : (p : Pool) (s : Sound p) (z : Sized p) (page kind : ℕ) → Way p (record_of p page kind) (settled_of p page kind) page (asked_by kind)
 unfolding record_of settled_by
@@ -189,9 +188,9 @@ no_hit : (p : Pool) → (room_row p).outcome ≡ hit → ⊥
 unfolding room_row
 no_hit p e = go (choice_of p).found refl e
   where
-    go : (f : Found) → (choice_of p).found ≡ f → (on_found f (λ v. row (pick (frame_at (choice_of p).frames v).dirty miss_dirty miss_clean) v (frame_at (choice_of p).frames v).page (length (batch_of (left_by p (choice_of p)) v))) (refused_row no_frame)).outcome ≡ hit → ⊥
-    go (At v) a q = pick_ind (λ n. n ≡ hit → ⊥) (frame_at (choice_of p).frames v).dirty miss_dirty miss_clean (λ _ x. omega arith) (λ _ x. omega arith) q
-    go Nothing a q = omega arith
+    go : (f : Option ℕ) → (choice_of p).found ≡ f → (on_found f (λ v. row (pick (frame_at (choice_of p).frames v).dirty miss_dirty miss_clean) v (frame_at (choice_of p).frames v).page (length (batch_of (left_by p (choice_of p)) v))) (refused_row no_frame)).outcome ≡ hit → ⊥
+    go (Some v) a q = pick_ind (λ n. n ≡ hit → ⊥) (frame_at (choice_of p).frames v).dirty miss_dirty miss_clean (λ _ x. omega arith) (λ _ x. omega arith) q
+    go None a q = omega arith
 
 -- what a settled row asks
 module _ (p : Pool) (s : sound_pool p ≡ true) (z : Sized p) (page kind at : ℕ) (w : Row) (e : w ≡ settled_of p page kind) where

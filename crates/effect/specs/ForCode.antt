@@ -1,9 +1,7 @@
 -- What the functions of the code say of themselves. Who reads the rules passes this over.
 -- `worked_is` in proofs/ shows that settling, making room and entering is `record_of`.
-use Rattle.std.specs.Prelude.{ℕ, zero, suc, ◌+◌, ◌-◌, ◌*◌, ◌≤◌, ◌<◌, ◌≡◌, Bool, true, false, ◌&&◌, ◌||◌, not, List, [], length, eqb, leb}
+use Rattle.std.specs.Prelude.{ℕ, zero, suc, ◌+◌, ◌-◌, ◌*◌, ◌≤◌, ◌<◌, ◌≡◌, Bool, true, false, ◌&&◌, ◌||◌, not, List, [], length, eqb, leb, Option, Some}
 use Rattle.std.proofs.lemmas.List.Edits.{sets}
-use Rattle.search.specs.declared.Found.{Found}
-use Rattle.search.specs.declared.Found.TheVariants.{At}
 use Rattle.search.specs.Search.{pick, on_found}
 use Rattle.refusal.specs.Refusals.{bad_field, no_reference_left, no_frame, not_pinned, pins_full}
 use Rattle.pool.specs.declared.Frame.{Frame}
@@ -51,23 +49,23 @@ pub record Plays (p : Pool) (d : Did) (at places : ℕ) : Type 0 where
   pub room : at + length d.written ≤ places
 
 -- what was found is a frame
-abbrev pub Framed : Found → Type 0
-Framed f = (i : ℕ) → f ≡ At i → i < 128
+abbrev pub Framed : Option ℕ → Type 0
+Framed f = (i : ℕ) → f ≡ Some i → i < 128
 
 -- a hit in frame i, which has so many pins
 abbrev pub settled_hit : ℕ → ℕ → Bool → Row
 settled_hit pins i pin = pick (pin && eqb pins pin_limit) (refused_row pins_full) (row hit i 0 0)
 
 -- a miss: in an unused frame, or a victim is wanted
-abbrev pub settled_miss : Found → Row
+abbrev pub settled_miss : Option ℕ → Row
 settled_miss free = on_found free (λ i. row miss_unused i 0 0) (row miss_clean 0 0 0)
 
 -- a reference at step k
-unfoldable pub settled_reference : ℕ → Found → ℕ → Found → Bool → Row
+unfoldable pub settled_reference : ℕ → Option ℕ → ℕ → Option ℕ → Bool → Row
 settled_reference k found pins free pin = pick (leb reference_limit k) (refused_row no_reference_left) (on_found found (λ i. settled_hit pins i pin) (settled_miss free))
 
 -- an unpin
-unfoldable pub settled_unpin : Found → ℕ → Row
+unfoldable pub settled_unpin : Option ℕ → ℕ → Row
 settled_unpin found pins = on_found found (λ i. pick (eqb pins 0) (refused_row not_pinned) (row unpin_done i 0 0)) (refused_row not_pinned)
 
 -- a reference or an unpin, or neither; with a write, with a pin
@@ -83,13 +81,13 @@ asked_by (suc (suc (suc zero))) = asked false true false false
 asked_by (suc (suc (suc (suc kind)))) = asked false false false false
 
 -- the row, but where a victim is wanted, from the frame in which the page was found, its pins, and the lowest unused frame
-unfoldable pub settled_by : ℕ → Found → ℕ → Found → Asked → Row
+unfoldable pub settled_by : ℕ → Option ℕ → ℕ → Option ℕ → Asked → Row
 settled_by k found pins free asks =
     pick asks.reference (settled_reference k found pins free asks.pin)
     (pick asks.unpin (settled_unpin found pins) (refused_row bad_field))
 
 -- the frame in which a page was found, or 0
-abbrev pub place_of : Found → ℕ
+abbrev pub place_of : Option ℕ → ℕ
 place_of found = on_found found (λ i. i) 0
 
 module _ (p : Pool) where

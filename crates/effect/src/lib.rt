@@ -12,7 +12,6 @@ ghost use Rattle.effect.specs.Record.{record_of};
 ghost use Rattle.effect.specs.ForCode.{Leaves, Plays, settled_hit, settled_miss, settled_reference, settled_unpin, asked, asked_by, settled_by, place_of, room_pages, RoomMade, RoomAsked, RoomWhere, Framed, pins_with, hit_frame, fetched_frame, unpinned_frame, with_step, moved_to, Enterable, LogsEnd, Entering, hit_in, fetched_in, entered};
 
 use pool::Frame;
-use search::Found;
 use table::{Head, Table};
 use tally::Row;
 
@@ -51,18 +50,18 @@ fn settle_hit(pins: u8, i: usize, pin: bool) -> Row
 }
 
 // A miss in the lowest unused frame; with none, a victim is wanted, and nothing is known of it yet.
-fn settle_miss(free: Found) -> Row
+fn settle_miss(free: Option<usize>) -> Row
     requires { Framed free }
     ensures { (result ≡ settled_miss free) × (result.frame < 128) }
 {
-    let Found::At(i) = free else {
+    let Some(i) = free else {
         return row_at(tally::MISS_CLEAN, 0);
     };
     row_at(tally::MISS_UNUSED, i)
 }
 
 // A read, a write or a pin.
-fn settle_reference(k: u32, found: Found, pins: u8, free: Found, pin: bool) -> Row
+fn settle_reference(k: u32, found: Option<usize>, pins: u8, free: Option<usize>, pin: bool) -> Row
     requires { Framed found × Framed free }
     ensures { (result ≡ settled_reference k found pins free pin) × (result.frame < 128) }
 {
@@ -70,17 +69,17 @@ fn settle_reference(k: u32, found: Found, pins: u8, free: Found, pin: bool) -> R
         return tally::refused_row(refusal::NO_REFERENCE_LEFT);
     }
     match found {
-        Found::At(i) => settle_hit(pins, i, pin),
-        Found::Nothing => settle_miss(free),
+        Some(i) => settle_hit(pins, i, pin),
+        None => settle_miss(free),
     }
 }
 
 // An unpin: no reference.
-fn settle_unpin(found: Found, pins: u8) -> Row
+fn settle_unpin(found: Option<usize>, pins: u8) -> Row
     requires { Framed found }
     ensures { (result ≡ settled_unpin found pins) × (result.frame < 128) }
 {
-    let Found::At(i) = found else {
+    let Some(i) = found else {
         return tally::refused_row(refusal::NOT_PINNED);
     };
     if pins == 0 {
@@ -124,7 +123,7 @@ fn asked_by(kind: u16) -> Asked
 
 // The row of a record at step k, whose page was found in a frame with so many pins, or may go into an unused one. Where it is a miss with
 // a clean victim, a victim is wanted and is still to be found.
-fn settle(k: u32, found: Found, pins: u8, free: Found, asks: Asked) -> Row
+fn settle(k: u32, found: Option<usize>, pins: u8, free: Option<usize>, asks: Asked) -> Row
     requires { Framed found × Framed free }
     ensures { (result ≡ settled_by k found pins free asks) × (result.frame < 128) }
 {
@@ -138,13 +137,13 @@ fn settle(k: u32, found: Found, pins: u8, free: Found, asks: Asked) -> Row
 }
 
 // The frame in which a page was found, or 0.
-fn place_of(found: Found) -> usize
+fn place_of(found: Option<usize>) -> usize
     requires { Framed found }
     ensures { (result ≡ place_of found) × (result < 128) }
 {
     match found {
-        Found::At(i) => i,
-        Found::Nothing => 0,
+        Some(i) => i,
+        None => 0,
     }
 }
 
@@ -187,7 +186,7 @@ fn make_room<'a>(
     swept.hand = c.hand;
     swept.sampler = c.sampler;
     let found = c.found;
-    let Found::At(v) = found else {
+    let Some(v) = found else {
         let none = tally::refused_row(refusal::NO_FRAME);
         return Worked {
             row: none,

@@ -7,8 +7,7 @@ use native.Mathlib.Omega.{arith}
 use lib.ListN.{length, get_or, take, length-take, get_or-replicate, length-replicate}
 use lib.Seq.{take-nil}
 use borrow.Author.Tests.{le-ltb}
-use Rattle.search.specs.declared.Found.{Found}
-use Rattle.search.specs.declared.Found.TheVariants.{At, Nothing}
+use Rattle.std.specs.Prelude.{Option, Some, None}
 use Rattle.search.specs.Search.{is_found, among, one_if}
 use Rattle.search.proofs.Count.{count_none, count_suc}
 use Rattle.settings.specs.declared.Settings.{Settings}
@@ -67,9 +66,9 @@ fresh_k s = refl
 listed : (p : Pool) (pages : List ℕ) → Ordered p pages → Sound p → (page : ℕ) → holds p page ≡ among pages page
 listed p pages o s page = go (find_page p.frames page) refl
   where
-    go : (f : Found) → find_page p.frames page ≡ f → is_found f ≡ among pages page
-    go (At i) e = sym (found_listed p pages o s page i e)
-    go Nothing e = sym (absent_unlisted p pages o s page e)
+    go : (f : Option ℕ) → find_page p.frames page ≡ f → is_found f ≡ among pages page
+    go (Some i) e = sym (found_listed p pages o s page i e)
+    go None e = sym (absent_unlisted p pages o s page e)
 
 module _ (s : Settings) (t : Tally) (trace : Trace) (lru : Lru s) (plain : Plain trace) where
   abbrev stack : ℕ → List ℕ

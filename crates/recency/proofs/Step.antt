@@ -9,8 +9,7 @@ use lib.ListN.{length, take, length-map}
 use lib.Seq.{take_all}
 use lib.Dec.{eqb, ltb, leb}
 use borrow.Author.Tests.{eq-eqb, lt-ltb, le-ltb, ltb-true, ltb-false, lt-leb}
-use Rattle.search.specs.declared.Found.{Found}
-use Rattle.search.specs.declared.Found.TheVariants.{At, Nothing}
+use Rattle.std.specs.Prelude.{Option, Some, None}
 use Rattle.search.specs.Search.{among, never}
 use Rattle.search.proofs.Among.{among_map}
 use Rattle.search.proofs.Least.{least_sound, first_lowest}
@@ -57,13 +56,13 @@ module _ (p : Pool) (pages : List ℕ) (o : Ordered p pages) where
 
   module _ (s : Sound p) (page : ℕ) where
     -- a page that is found is on the list, and one that is not found is not
-    pub found_listed : (i : ℕ) → find_page p.frames page ≡ At i → among pages page ≡ true
+    pub found_listed : (i : ℕ) → find_page p.frames page ≡ Some i → among pages page ≡ true
     found_listed i e =
         let u = find_used p s page i e in
         subst (λ (l : List ℕ). among l page ≡ true) o.pages_are
         (subst (λ (x : ℕ). among (map (page_in p) o.frames) x ≡ true) u.2 (among_map (page_in p) o.frames i (o.all i u.0 u.1)))
 
-    pub absent_unlisted : find_page p.frames page ≡ Nothing → among pages page ≡ false
+    pub absent_unlisted : find_page p.frames page ≡ None → among pages page ≡ false
     absent_unlisted e =
         subst (λ (l : List ℕ). among l page ≡ false) o.pages_are
         (map_absent (page_in p) page o.frames (λ j a. let u = in_use_lem j a in find_absent p s page j e u.0 u.1))
@@ -135,7 +134,7 @@ module _ (p : Pool) (s : Sound p) (z : Sized p) (none : NonePinned p) (pages : L
     here_count j h n = o.first j h ∙ ap (ltb j) here
 
   -- a hit
-  module _ (i : ℕ) (e : find_page p.frames page ≡ At i) where
+  module _ (i : ℕ) (e : find_page p.frames page ≡ Some i) where
     hit_pages : page ∷ map (page_in p) (without i o.frames) ≡ take p.settings.frames (touched page pages)
     hit_pages =
         let u = find_used p s page i e in
@@ -154,7 +153,7 @@ module _ (p : Pool) (s : Sound p) (z : Sized p) (none : NonePinned p) (pages : L
         hit_pages (here_low i u.0 u.1) (here_count i u.0 u.1) (sym a) (ap not (sym a))
 
   -- a miss
-  module _ (e : find_page p.frames page ≡ Nothing) where
+  module _ (e : find_page p.frames page ≡ None) where
     new : among pages page ≡ false
     new = absent_unlisted p pages o s page e
 
@@ -165,7 +164,7 @@ module _ (p : Pool) (s : Sound p) (z : Sized p) (none : NonePinned p) (pages : L
     missed d h = h ∙ ap not (sym new)
 
     -- into the lowest unused frame, which is the next
-    module _ (i : ℕ) (g : lowest_unused p ≡ At i) where
+    module _ (i : ℕ) (g : lowest_unused p ≡ Some i) where
       next : (i < p.settings.frames) × ((frame_at p.frames i).used ≡ false)
       unfolding lowest_unused
       next = let w = least_sound (unused p.frames) never p.settings.frames i g in (w.0, denied (frame_at p.frames i).used w.1)
@@ -210,7 +209,7 @@ module _ (p : Pool) (s : Sound p) (z : Sized p) (none : NonePinned p) (pages : L
           (λ j h ne. rw none_out (o.first j h ∙ free_count j ne)) (sym new) (missed d refl)
 
     -- into the frame of the victim, which is the last of them
-    module _ (lru : p.settings.rule ≡ 0) (g : lowest_unused p ≡ Nothing) where
+    module _ (lru : p.settings.rule ≡ 0) (g : lowest_unused p ≡ None) where
       chooses : choice_of p ≡ lru_choice p
       chooses = sym (choice_by p (lru_choice p) 0 lru refl)
 
@@ -228,7 +227,7 @@ module _ (p : Pool) (s : Sound p) (z : Sized p) (none : NonePinned p) (pages : L
           let k = ltb-true (f - 1) (length o.frames) (sym (o.first (f - 1) (omega arith)) ∙ none_unused p g (f - 1) (omega arith)) in
           omega arith
 
-      module _ (v : ℕ) (c : (choice_of p).found ≡ At v) where
+      module _ (v : ℕ) (c : (choice_of p).found ≡ Some v) where
         below : (v < p.settings.frames) × (v < 128)
         below = let a = (choice_owes.unpinned p v s c).0 in let f = (ranges p.settings s.settings).frames.1 in (a, omega arith)
 
@@ -269,7 +268,7 @@ module _ (p : Pool) (s : Sound p) (z : Sized p) (none : NonePinned p) (pages : L
             (left_row.0 ∙ sym new) (missed left left_row.1)
 
       -- and there is one
-      some : (choice_of p).found ≡ Nothing → ⊥
+      some : (choice_of p).found ≡ None → ⊥
       some h =
           let f = (ranges p.settings s.settings).frames.0 in
           true≢false (sym (eq-eqb (frame_at p.frames 0).pins 0 (none 0 (omega arith))) ∙ (choice_serves p s).0 h 0 (omega arith))
@@ -277,27 +276,27 @@ module _ (p : Pool) (s : Sound p) (z : Sized p) (none : NonePinned p) (pages : L
       full_went : Went p page pages (miss_of p page write false)
       full_went = chosen (choice_of p).found refl
         where
-          chosen : (f : Found) → (choice_of p).found ≡ f → Went p page pages (miss_of p page write false)
-          chosen (At v) c =
+          chosen : (f : Option ℕ) → (choice_of p).found ≡ f → Went p page pages (miss_of p page write false)
+          chosen (Some v) c =
               subst (Went p page pages)
               (sym (full p page write false g ∙ victim p page write false (choice_of p) v refl c ∙ ap (λ (q : Pool). leaving_of q v page write false) leaves))
               (left_went v c)
-          chosen Nothing c = absurd (some c)
+          chosen None c = absurd (some c)
 
     miss_went : p.settings.rule ≡ 0 → Went p page pages (miss_of p page write false)
     miss_went lru = go (lowest_unused p) refl
       where
-        go : (f : Found) → lowest_unused p ≡ f → Went p page pages (miss_of p page write false)
-        go (At i) g = subst (Went p page pages) (sym (free p page write false i g)) (free_went i g)
-        go Nothing g = full_went lru g
+        go : (f : Option ℕ) → lowest_unused p ≡ f → Went p page pages (miss_of p page write false)
+        go (Some i) g = subst (Went p page pages) (sym (free p page write false i g)) (free_went i g)
+        go None g = full_went lru g
 
   reference_went : p.settings.rule ≡ 0 → p.k < reference_limit → Went p page pages (reference_of p page write false)
   reference_went lru room = go (find_page p.frames page) refl
     where
-      go : (f : Found) → find_page p.frames page ≡ f → Went p page pages (reference_of p page write false)
-      go (At i) e =
+      go : (f : Option ℕ) → find_page p.frames page ≡ f → Went p page pages (reference_of p page write false)
+      go (Some i) e =
           subst (Went p page pages) (sym (resident p page write false i (lt-leb reference_limit p.k room) e ∙ pins_free p i write false refl)) (hit_went i e)
-      go Nothing e = subst (Went p page pages) (sym (absent p page write false (lt-leb reference_limit p.k room) e)) (miss_went e lru)
+      go None e = subst (Went p page pages) (sym (absent p page write false (lt-leb reference_limit p.k room) e)) (miss_went e lru)
 
 -- a read or a write: a hit exactly where the page is on the list, and then the first f of the list with the page moved to the front
 pub record_went : (p : Pool) → Sound p → Sized p → NonePinned p → p.settings.rule ≡ 0 → p.k < reference_limit

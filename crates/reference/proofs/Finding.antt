@@ -7,8 +7,7 @@ use native.Mathlib.Omega.{arith}
 use native.Mathlib.Decide.{dec_lt}
 use lib.Dec.{eqb}
 use borrow.Author.Tests.{eqb-true}
-use Rattle.search.specs.declared.Found.{Found}
-use Rattle.search.specs.declared.Found.TheVariants.{At, Nothing}
+use Rattle.std.specs.Prelude.{Option, Some, None}
 use Rattle.search.specs.Search.{is_found, least_below, never}
 use Rattle.search.proofs.Least.{least_none_of, least_rest, first_found}
 use Rattle.search.proofs.Every.{not_so}
@@ -40,15 +39,15 @@ module _ (fs : List Frame) (n page : ℕ) (r : Residents fs n) where
   unfolding find_page
   among_all = sym (least_rest (has fs page) never n 128 r.few (λ i l m. rw (r.rest i l m)))
 
-  pub not_found : (seen : Bool) → seen ≡ is_found (find_page fs page) → seen ≡ false → Nothing ≡ find_page fs page
+  pub not_found : (seen : Bool) → seen ≡ is_found (find_page fs page) → seen ≡ false → None ≡ find_page fs page
   not_found seen e h = go (find_page fs page) refl
     where
-      go : (f : Found) → find_page fs page ≡ f → Nothing ≡ find_page fs page
-      go (At j) y = absurd (true≢false (sym (e ∙ ap is_found y) ∙ h))
-      go Nothing y = sym y
+      go : (f : Option ℕ) → find_page fs page ≡ f → None ≡ find_page fs page
+      go (Some j) y = absurd (true≢false (sym (e ∙ ap is_found y) ∙ h))
+      go None y = sym y
 
   -- a frame that holds the page is what is found
-  pub guess_right : (i : ℕ) → i < 128 → has fs page i ≡ true → At i ≡ find_page fs page
+  pub guess_right : (i : ℕ) → i < 128 → has fs page i ≡ true → Some i ≡ find_page fs page
   unfolding find_page
   guess_right i l h =
       sym (first_found (has fs page) 128 i l

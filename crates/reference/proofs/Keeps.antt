@@ -8,7 +8,7 @@ use lib.ListN.{length-set}
 use lib.Seq.{get_or-set_same, get_or-set_other}
 use lib.Dec.{eqb}
 use borrow.Author.Tests.{eq-eqb, eqb-true}
-use Rattle.search.specs.declared.Found.TheVariants.{At, Nothing}
+use Rattle.std.specs.Prelude.{Some, None}
 use Rattle.search.specs.Search.{least_below, never}
 use Rattle.search.proofs.Least.{least_sound, least_none, least_cong, first_lowest}
 use Rattle.search.proofs.Every.{undenied}
@@ -34,7 +34,7 @@ module _ (p : Pool) (s : Sound p) where
   f j = frame_at p.frames j
 
   -- what is found is the only frame with that page
-  pub find_only : (page i j : ℕ) → find_page p.frames page ≡ At i → j < 128 → has p.frames page j ≡ true → j ≡ i
+  pub find_only : (page i j : ℕ) → find_page p.frames page ≡ Some i → j < 128 → has p.frames page j ≡ true → j ≡ i
   unfolding find_page
   find_only page i j e l h =
       let w = least_sound (has p.frames page) never 128 i e in
@@ -46,7 +46,7 @@ module _ (p : Pool) (s : Sound p) where
         | no q ↦ elim (dec_lt i j) [ yes t ↦ absurd ((s.frame j l).pages b.0 i t (sym same)) | no t ↦ omega arith ]
       ]
 
-  pub find_used : (page i : ℕ) → find_page p.frames page ≡ At i → (i < 128) × ((f i).used ≡ true) × ((f i).page ≡ page)
+  pub find_used : (page i : ℕ) → find_page p.frames page ≡ Some i → (i < 128) × ((f i).used ≡ true) × ((f i).page ≡ page)
   unfolding find_page
   find_used page i e =
       let w = least_sound (has p.frames page) never 128 i e in
@@ -54,7 +54,7 @@ module _ (p : Pool) (s : Sound p) where
       (w.0, a.0, eqb-true (f i).page page a.1)
 
   -- a page that is not found is in no frame in use
-  pub find_absent : (page j : ℕ) → find_page p.frames page ≡ Nothing → j < 128 → (f j).used ≡ true → (f j).page ≡ page → ⊥
+  pub find_absent : (page j : ℕ) → find_page p.frames page ≡ None → j < 128 → (f j).used ≡ true → (f j).page ≡ page → ⊥
   unfolding find_page
   find_absent page j e l u q = false≢true (sym (least_none (has p.frames page) never 128 j e l) ∙ rw (u, eq-eqb (f j).page page q))
 
@@ -80,7 +80,7 @@ module _ (p : Pool) (s : Sound p) where
       }
 
 -- with no unused frame below f, each is in use
-pub none_unused : (p : Pool) → lowest_unused p ≡ Nothing → (i : ℕ) → i < p.settings.frames → (frame_at p.frames i).used ≡ true
+pub none_unused : (p : Pool) → lowest_unused p ≡ None → (i : ℕ) → i < p.settings.frames → (frame_at p.frames i).used ≡ true
 unfolding lowest_unused
 none_unused p h i l = undenied (frame_at p.frames i).used (least_none (unused p.frames) never p.settings.frames i h l)
 
@@ -225,8 +225,8 @@ module _ (p : Pool) (s : Sound p) (z : Sized p) (i page : ℕ) (l : i < p.settin
   fetch_sized write room = referred_sized e i write (fetch_ready room)
 
 -- into the lowest unused frame, and into the frame of a victim where none is unused
-module _ (p : Pool) (s : Sound p) (z : Sized p) (page : ℕ) (miss : find_page p.frames page ≡ Nothing) (room : p.k < reference_limit) where
-  module _ (i : ℕ) (write : Bool) (h : lowest_unused p ≡ At i) where
+module _ (p : Pool) (s : Sound p) (z : Sized p) (page : ℕ) (miss : find_page p.frames page ≡ None) (room : p.k < reference_limit) where
+  module _ (i : ℕ) (write : Bool) (h : lowest_unused p ≡ Some i) where
     within : i < p.settings.frames
     unfolding lowest_unused
     within = (least_sound (unused p.frames) never p.settings.frames i h).0
@@ -241,7 +241,7 @@ module _ (p : Pool) (s : Sound p) (z : Sized p) (page : ℕ) (miss : find_page p
     pub unused_sized : Sized (fetched_at p i page write)
     unused_sized = fetch_sized p s z i page within under (λ j. find_absent p s page j miss) write room
 
-  module _ (i : ℕ) (write : Bool) (h : lowest_unused p ≡ Nothing) (l : i < p.settings.frames) where
+  module _ (i : ℕ) (write : Bool) (h : lowest_unused p ≡ None) (l : i < p.settings.frames) where
     pub victim_sound : Sound (fetched_at p i page write)
     victim_sound = fetch_sound p s z i page l (λ j k. none_unused p h j (omega arith)) (λ j. find_absent p s page j miss) write room
 

@@ -8,8 +8,7 @@ use lib.ListN.{length}
 use lib.Dec.{eqb, leb}
 use borrow.Author.Tests.{lt-leb}
 use Rattle.refusal.specs.Refusals.{bad_field, no_reference_left, no_frame, not_pinned, pins_full}
-use Rattle.search.specs.declared.Found.{Found}
-use Rattle.search.specs.declared.Found.TheVariants.{At, Nothing}
+use Rattle.std.specs.Prelude.{Option, Some, None}
 use Rattle.search.specs.Search.{pick, among}
 use Rattle.search.proofs.Among.{All, all_for}
 use Rattle.settings.proofs.Laws.{ranges}
@@ -108,18 +107,18 @@ module _ (ρ : ℕ → ℕ) (p : Pool) (s : Sound p) (page : ℕ) (write pin : B
   chosen : choice_of r ≡ repaged_choice (held_page ρ) (choice_of p)
   chosen = choice_owes.pages (held_page ρ) refl p
 
-  eviction_renamed : lowest_unused p ≡ Nothing → eviction_of r (ρ page) write pin ≡ renamed_did ρ (eviction_of p page write pin)
+  eviction_renamed : lowest_unused p ≡ None → eviction_of r (ρ page) write pin ≡ renamed_did ρ (eviction_of p page write pin)
   eviction_renamed none = go (choice_of p).found refl
     where
-      go : (f : Found) → (choice_of p).found ≡ f → eviction_of r (ρ page) write pin ≡ renamed_did ρ (eviction_of p page write pin)
-      go (At v) e =
+      go : (f : Option ℕ) → (choice_of p).found ≡ f → eviction_of r (ρ page) write pin ≡ renamed_did ρ (eviction_of p page write pin)
+      go (Some v) e =
           let below = (choice_owes.unpinned p v s e).0 in
           let few = (ranges p.settings s.settings).frames.1 in
           let used = ap (λ (fr : Frame). fr.used) (choice_owes.lowers p v).kept ∙ none_unused p none v below in
           victim r (ρ page) write pin (repaged_choice (held_page ρ) (choice_of p)) v (sym chosen) e
           ∙ leaving_renamed ρ (left_by p (choice_of p)) (choice_owes.sound p s) v (omega arith) used page write pin
           ∙ sym (ap (renamed_did ρ) (victim p page write pin (choice_of p) v refl e))
-      go Nothing e =
+      go None e =
           no_victim r (ρ page) write pin (ap (λ (c : Choice). c.found) chosen ∙ e)
           ∙ refusal_renamed ρ p no_frame
           ∙ sym (ap (renamed_did ρ) (no_victim p page write pin e))
@@ -127,12 +126,12 @@ module _ (ρ : ℕ → ℕ) (p : Pool) (s : Sound p) (page : ℕ) (write pin : B
   miss_renamed : miss_of r (ρ page) write pin ≡ renamed_did ρ (miss_of p page write pin)
   miss_renamed = go (lowest_unused p) refl
     where
-      go : (f : Found) → lowest_unused p ≡ f → miss_of r (ρ page) write pin ≡ renamed_did ρ (miss_of p page write pin)
-      go (At i) e =
+      go : (f : Option ℕ) → lowest_unused p ≡ f → miss_of r (ρ page) write pin ≡ renamed_did ρ (miss_of p page write pin)
+      go (Some i) e =
           free r (ρ page) write pin i (unused_renamed ρ p ∙ e)
           ∙ ap (did (row miss_unused i 0 0) []) (filled_renamed ρ p i write page pin)
           ∙ sym (ap (renamed_did ρ) (free p page write pin i e))
-      go Nothing e = full r (ρ page) write pin (unused_renamed ρ p ∙ e) ∙ eviction_renamed e ∙ sym (ap (renamed_did ρ) (full p page write pin e))
+      go None e = full r (ρ page) write pin (unused_renamed ρ p ∙ e) ∙ eviction_renamed e ∙ sym (ap (renamed_did ρ) (full p page write pin e))
 
 module _ (ρ : ℕ → ℕ) (pages : List ℕ) (names : Renames ρ pages) (p : Pool) (s : Sound p) (listed : AllListed pages p.frames) (page : ℕ) (here : among pages page ≡ true) where
   abbrev t : Pool
@@ -144,15 +143,15 @@ module _ (ρ : ℕ → ℕ) (pages : List ℕ) (names : Renames ρ pages) (p : P
   reference_renamed : (write pin : Bool) → reference_of t (ρ page) write pin ≡ renamed_did ρ (reference_of p page write pin)
   reference_renamed write pin = go (leb reference_limit p.k) (find_page p.frames page) refl refl
     where
-      go : (b : Bool) (f : Found) → leb reference_limit p.k ≡ b → find_page p.frames page ≡ f → reference_of t (ρ page) write pin ≡ renamed_did ρ (reference_of p page write pin)
+      go : (b : Bool) (f : Option ℕ) → leb reference_limit p.k ≡ b → find_page p.frames page ≡ f → reference_of t (ρ page) write pin ≡ renamed_did ρ (reference_of p page write pin)
       go true f e a = at_limit t (ρ page) write pin e ∙ refusal_renamed ρ p no_reference_left ∙ sym (ap (renamed_did ρ) (at_limit p page write pin e))
-      go false (At i) e a = resident t (ρ page) write pin i e (found ∙ a) ∙ hit_of_renamed ρ p i write pin ∙ sym (ap (renamed_did ρ) (resident p page write pin i e a))
-      go false Nothing e a = absent t (ρ page) write pin e (found ∙ a) ∙ miss_renamed ρ p s page write pin ∙ sym (ap (renamed_did ρ) (absent p page write pin e a))
+      go false (Some i) e a = resident t (ρ page) write pin i e (found ∙ a) ∙ hit_of_renamed ρ p i write pin ∙ sym (ap (renamed_did ρ) (resident p page write pin i e a))
+      go false None e a = absent t (ρ page) write pin e (found ∙ a) ∙ miss_renamed ρ p s page write pin ∙ sym (ap (renamed_did ρ) (absent p page write pin e a))
 
   unpin_of_renamed : unpin_of t (ρ page) ≡ renamed_did ρ (unpin_of p page)
   unpin_of_renamed = go (find_page p.frames page) refl
     where
-      one : (b : Bool) (i : ℕ) → find_page p.frames page ≡ At i → eqb (pins_at p i) 0 ≡ b → unpin_of t (ρ page) ≡ renamed_did ρ (unpin_of p page)
+      one : (b : Bool) (i : ℕ) → find_page p.frames page ≡ Some i → eqb (pins_at p i) 0 ≡ b → unpin_of t (ρ page) ≡ renamed_did ρ (unpin_of p page)
       one true i a e =
           unpin_none t (ρ page) i (found ∙ a) (ap (λ (n : ℕ). eqb n 0) (pins_renamed ρ p i) ∙ e)
           ∙ refusal_renamed ρ p not_pinned
@@ -162,9 +161,9 @@ module _ (ρ : ℕ → ℕ) (pages : List ℕ) (names : Renames ρ pages) (p : P
           ∙ ap (did (row unpin_done i 0 0) []) (unpin_renamed ρ p i)
           ∙ sym (ap (renamed_did ρ) (unpin_one p page i a e))
 
-      go : (f : Found) → find_page p.frames page ≡ f → unpin_of t (ρ page) ≡ renamed_did ρ (unpin_of p page)
-      go (At i) a = one (eqb (pins_at p i) 0) i a refl
-      go Nothing a = unpin_absent t (ρ page) (found ∙ a) ∙ refusal_renamed ρ p not_pinned ∙ sym (ap (renamed_did ρ) (unpin_absent p page a))
+      go : (f : Option ℕ) → find_page p.frames page ≡ f → unpin_of t (ρ page) ≡ renamed_did ρ (unpin_of p page)
+      go (Some i) a = one (eqb (pins_at p i) 0) i a refl
+      go None a = unpin_absent t (ρ page) (found ∙ a) ∙ refusal_renamed ρ p not_pinned ∙ sym (ap (renamed_did ρ) (unpin_absent p page a))
 
   -- every record
   pub record_renamed : (kind : ℕ) → record_of t (ρ page) kind ≡ renamed_did ρ (record_of p page kind)

@@ -6,8 +6,7 @@ use Prim.Native.Nat.{ℕ, zero, suc, ◌+◌, ◌-◌}
 use lib.ListN.{set}
 use lib.Dec.{eqb, leb}
 use Rattle.refusal.specs.Refusals.{pins_full}
-use Rattle.search.specs.declared.Found.{Found}
-use Rattle.search.specs.declared.Found.TheVariants.{At, Nothing}
+use Rattle.std.specs.Prelude.{Option, Some, None}
 use Rattle.search.specs.Search.{among}
 use Rattle.search.proofs.Every.{pick_ind}
 use Rattle.pool.specs.declared.Frame.{Frame}
@@ -78,13 +77,13 @@ module _ (pages : List ℕ) where
     unpin_listed : (page : ℕ) → After (unpin_of p page)
     unpin_listed page = go (find_page p.frames page) refl
       where
-        one : (b : Bool) (i : ℕ) → find_page p.frames page ≡ At i → eqb (pins_at p i) 0 ≡ b → After (unpin_of p page)
+        one : (b : Bool) (i : ℕ) → find_page p.frames page ≡ Some i → eqb (pins_at p i) 0 ≡ b → After (unpin_of p page)
         one true i a e = subst After (sym (unpin_none p page i a e)) h
         one false i a e = subst After (sym (unpin_one p page i a e)) (unpinned_listed p h i)
 
-        go : (f : Found) → find_page p.frames page ≡ f → After (unpin_of p page)
-        go (At i) a = one (eqb (pins_at p i) 0) i a refl
-        go Nothing a = subst After (sym (unpin_absent p page a)) h
+        go : (f : Option ℕ) → find_page p.frames page ≡ f → After (unpin_of p page)
+        go (Some i) a = one (eqb (pins_at p i) 0) i a refl
+        go None a = subst After (sym (unpin_absent p page a)) h
 
   module _ (page : ℕ) (here : among pages page ≡ true) (write pin : Bool) where
     filled_listed : (p : Pool) → AllListed pages p.frames → (i : ℕ) → AllListed pages (filled p i page write pin).frames
@@ -99,24 +98,24 @@ module _ (pages : List ℕ) where
       evicted_listed : After (eviction_of p page write pin)
       evicted_listed = go (choice_of p).found refl
         where
-          go : (f : Found) → (choice_of p).found ≡ f → After (eviction_of p page write pin)
-          go (At v) e = subst After (sym (victim p page write pin (choice_of p) v refl e)) (leaving_listed (left_by p (choice_of p)) (chosen_listed p h) v)
-          go Nothing e = subst After (sym (no_victim p page write pin e)) h
+          go : (f : Option ℕ) → (choice_of p).found ≡ f → After (eviction_of p page write pin)
+          go (Some v) e = subst After (sym (victim p page write pin (choice_of p) v refl e)) (leaving_listed (left_by p (choice_of p)) (chosen_listed p h) v)
+          go None e = subst After (sym (no_victim p page write pin e)) h
 
       missed_listed : After (miss_of p page write pin)
       missed_listed = go (lowest_unused p) refl
         where
-          go : (f : Found) → lowest_unused p ≡ f → After (miss_of p page write pin)
-          go (At i) e = subst After (sym (free p page write pin i e)) (filled_listed p h i)
-          go Nothing e = subst After (sym (full p page write pin e)) evicted_listed
+          go : (f : Option ℕ) → lowest_unused p ≡ f → After (miss_of p page write pin)
+          go (Some i) e = subst After (sym (free p page write pin i e)) (filled_listed p h i)
+          go None e = subst After (sym (full p page write pin e)) evicted_listed
 
       reference_listed : After (reference_of p page write pin)
       reference_listed = go (leb reference_limit p.k) (find_page p.frames page) refl refl
         where
-          go : (b : Bool) (f : Found) → leb reference_limit p.k ≡ b → find_page p.frames page ≡ f → After (reference_of p page write pin)
+          go : (b : Bool) (f : Option ℕ) → leb reference_limit p.k ≡ b → find_page p.frames page ≡ f → After (reference_of p page write pin)
           go true f e a = subst After (sym (at_limit p page write pin e)) h
-          go false (At i) e a = subst After (sym (resident p page write pin i e a)) (hit_listed p h i write pin)
-          go false Nothing e a = subst After (sym (absent p page write pin e a)) missed_listed
+          go false (Some i) e a = subst After (sym (resident p page write pin i e a)) (hit_listed p h i write pin)
+          go false None e a = subst After (sym (absent p page write pin e a)) missed_listed
 
   -- every record
   pub record_listed : (p : Pool) → AllListed pages p.frames → (page : ℕ) → among pages page ≡ true → (kind : ℕ) → AllListed pages (record_of p page kind).pool.frames

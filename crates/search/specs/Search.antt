@@ -1,7 +1,5 @@
 -- Searches among the numbers below a bound: the least that passes a test, the lowest on a tie; whether every one passes; how many do.
-use Rattle.std.specs.Prelude.{Bool, true, false, ◌&&◌, ◌||◌, List, [], ◌∷◌, ℕ, zero, suc, ◌+◌, eqb}
-use Rattle.search.specs.declared.Found.{Found}
-use Rattle.search.specs.declared.Found.TheVariants.{At, Nothing}
+use Rattle.std.specs.Prelude.{Bool, true, false, ◌&&◌, ◌||◌, List, [], ◌∷◌, ℕ, zero, suc, ◌+◌, eqb, Option, Some, None}
 
 -- the first of two where the test holds, else the second
 abbrev pub pick {ℓ} : {A : Type ℓ} → Bool → A → A → A
@@ -9,26 +7,26 @@ pick true a b = a
 pick false a b = b
 
 -- a case on what was found
-abbrev pub on_found {ℓ} : {A : Type ℓ} → Found → (ℕ → A) → A → A
-on_found (At i) f d = f i
-on_found Nothing f d = d
+abbrev pub on_found {ℓ} : {A : Type ℓ} → Option ℕ → (ℕ → A) → A → A
+on_found (Some i) f d = f i
+on_found None f d = d
 
 -- whether something was found
-abbrev pub is_found : Found → Bool
+abbrev pub is_found : Option ℕ → Bool
 is_found found = on_found found (λ _. true) false
 
 -- what is best when n is offered against what was best: n only where it is less
-abbrev pub better : (ℕ → ℕ → Bool) → ℕ → Found → Found
-better less n Nothing = At n
-better less n (At b) = pick (less n b) (At n) (At b)
+abbrev pub better : (ℕ → ℕ → Bool) → ℕ → Option ℕ → Option ℕ
+better less n None = Some n
+better less n (Some b) = pick (less n b) (Some n) (Some b)
 
 -- n is offered where it passes the test
-abbrev pub offer : (ℕ → Bool) → (ℕ → ℕ → Bool) → ℕ → Found → Found
+abbrev pub offer : (ℕ → Bool) → (ℕ → ℕ → Bool) → ℕ → Option ℕ → Option ℕ
 offer ok less n prev = pick (ok n) (better less n prev) prev
 
 -- the least number below a bound that passes the test, the lowest on a tie
-unfoldable pub least_below : (ℕ → Bool) → (ℕ → ℕ → Bool) → ℕ → Found
-least_below ok less zero = Nothing
+unfoldable pub least_below : (ℕ → Bool) → (ℕ → ℕ → Bool) → ℕ → Option ℕ
+least_below ok less zero = None
 least_below ok less (suc n) = offer ok less n (least_below ok less n)
 
 -- no number is less than another: the search then finds the lowest that passes

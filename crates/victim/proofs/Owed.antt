@@ -1,7 +1,6 @@
 -- What every rule owes: the words in which its laws are stated, and what they share.
-use Rattle.std.proofs.Common.{◌≡◌, ℕ, zero, suc, ◌<◌, ◌≤◌, Bool, true, false, eqb, List, [], ◌∷◌, map, length, get_or, set, sym, refl, ap, ◌∙◌, arith}
+use Rattle.std.proofs.Common.{◌≡◌, ℕ, zero, suc, ◌<◌, ◌≤◌, Bool, true, false, eqb, List, [], ◌∷◌, map, length, get_or, set, sym, refl, ap, ◌∙◌, arith, Some, None}
 use lib.ListN.{get_or-map}
-use Rattle.search.specs.declared.Found.TheVariants.{At, Nothing}
 use Rattle.pool.specs.declared.Frame.{Frame}
 use Rattle.pool.specs.declared.Pool.{Pool}
 use Rattle.pool.specs.Pool.{frame_at, empty_frame, with_count, with_page, with_frames}
@@ -55,12 +54,12 @@ lowered_more fr g h a b =
 
 -- it finds none exactly where every frame below f is pinned
 abbrev pub Serves : (Pool → Choice) → Type 0
-Serves choose = (p : Pool) → ((choose p).found ≡ Nothing → AllPinned p) × (AllPinned p → (choose p).found ≡ Nothing)
+Serves choose = (p : Pool) → ((choose p).found ≡ None → AllPinned p) × (AllPinned p → (choose p).found ≡ None)
 
 -- What each rule owes beside that, one list for all; no rule too.
 pub record Owes (rule : Rule) : Type 0 where
-  pub unpinned : (p : Pool) (v : ℕ) → Sound p → (rule.choice p).found ≡ At v → (v < p.settings.frames) × (unpinned p.frames v ≡ true)
-  pub still : (p : Pool) → (rule.choice p).found ≡ Nothing → left_by p (rule.choice p) ≡ p
+  pub unpinned : (p : Pool) (v : ℕ) → Sound p → (rule.choice p).found ≡ Some v → (v < p.settings.frames) × (unpinned p.frames v ≡ true)
+  pub still : (p : Pool) → (rule.choice p).found ≡ None → left_by p (rule.choice p) ≡ p
   pub lowers : (p : Pool) (i : ℕ) → Lowered (frame_at p.frames i) (frame_at (rule.choice p).frames i)
   pub long : (p : Pool) → length (rule.choice p).frames ≡ length p.frames
   pub quiet : (p : Pool) → Sound p → Quiet p (left_by p (rule.choice p))

@@ -1,6 +1,5 @@
 -- What every rule owes, the pool's own rule owes.
-use Rattle.std.proofs.Common.{◌≡◌, ℕ, zero, suc, ◌≤◌, List, [], sym, refl, ap, ◌∙◌, arith}
-use Rattle.search.specs.declared.Found.TheVariants.{Nothing}
+use Rattle.std.proofs.Common.{◌≡◌, ℕ, zero, suc, ◌≤◌, List, [], sym, refl, ap, ◌∙◌, arith, None}
 use Rattle.search.proofs.Least.{one_or_none}
 use Rattle.settings.proofs.Laws.{ranges}
 use Rattle.pool.specs.declared.Pool.{Pool}
@@ -25,7 +24,7 @@ none_owes = record {
   still = λ p e. refl;
   lowers = λ p i. lowered_same (frame_at p.frames i);
   long = λ p. refl;
-  quiet = λ p s. quiet_of p s (unmoved p Nothing) s.hand (λ i. lowered_same (frame_at p.frames i));
+  quiet = λ p s. quiet_of p s (unmoved p None) s.hand (λ i. lowered_same (frame_at p.frames i));
   sound = λ p s. s;
   pages = λ new stays p. refl;
   sorts = λ new stays p i j. refl;
@@ -62,7 +61,7 @@ choice_owes = record {
 }
 
 -- a sound pool's rule is one of the three
-pub choice_serves : (p : Pool) → Sound p → ((choice_of p).found ≡ Nothing → AllPinned p) × (AllPinned p → (choice_of p).found ≡ Nothing)
+pub choice_serves : (p : Pool) → Sound p → ((choice_of p).found ≡ None → AllPinned p) × (AllPinned p → (choice_of p).found ≡ None)
 unfolding choice_of
 choice_serves p s = rule_serves p.settings.rule (ranges p.settings s.settings).rule p
 

@@ -1,6 +1,5 @@
 -- What the rules share: which frames may leave, what a rule leaves behind, and what makes a rule.
-use Rattle.std.specs.Prelude.{ℕ, Bool, List, ◌==◌}
-use Rattle.search.specs.declared.Found.{Found}
+use Rattle.std.specs.Prelude.{ℕ, Bool, List, ◌==◌, Option}
 use Rattle.pool.specs.declared.Frame.{Frame}
 use Rattle.pool.specs.declared.Pool.{Pool}
 use Rattle.pool.specs.Pool.{frame_at, with_hand, with_sampler, with_frames}
@@ -11,13 +10,13 @@ unpinned fs i = (frame_at fs i).pins == 0
 
 -- what a rule leaves: its victim or none, and hand, sampler number and frames then
 pub record Choice : Type 0 where
-  pub found : Found
+  pub found : Option ℕ
   pub hand : ℕ
   pub sampler : ℕ
   pub frames : List Frame
 
 -- what was found, with hand, sampler number and frames as they are
-abbrev pub unmoved : Pool → Found → Choice
+abbrev pub unmoved : Pool → Option ℕ → Choice
 unmoved p v = record { found = v; hand = p.hand; sampler = p.sampler; frames = p.frames }
 
 -- the pool with a choice's hand, sampler number and frames

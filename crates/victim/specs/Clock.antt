@@ -1,7 +1,5 @@
 -- Generalised clock.
-use Rattle.std.specs.Prelude.{ℕ, zero, suc, ◌+◌, ◌-◌, ◌*◌, ◌%◌, Bool, true, false, ◌&&◌, List, [], ◌∷◌, ◌==◌, nat_lt, slice_set}
-use Rattle.search.specs.declared.Found.{Found}
-use Rattle.search.specs.declared.Found.TheVariants.{At, Nothing}
+use Rattle.std.specs.Prelude.{ℕ, zero, suc, ◌+◌, ◌-◌, ◌*◌, ◌%◌, Bool, true, false, ◌&&◌, List, [], ◌∷◌, ◌==◌, nat_lt, slice_set, Option, Some, None}
 use Rattle.search.specs.Search.{pick, on_found, never, least_below}
 use Rattle.pool.specs.declared.Frame.{Frame}
 use Rattle.pool.specs.declared.Pool.{Pool}
@@ -44,14 +42,14 @@ sweep_of p = sweep_from (p.settings.frames * (p.settings.cap + 1)) p.settings.fr
 
 -- it rests on the victim, and then moves one past it
 abbrev pub rested_at : Pool → ℕ × List Frame → Choice
-rested_at p r = record { found = At r.0; hand = next_hand p.settings.frames r.0; sampler = p.sampler; frames = r.1 }
+rested_at p r = record { found = Some r.0; hand = next_hand p.settings.frames r.0; sampler = p.sampler; frames = r.1 }
 
 -- what the sweep leaves
 unfoldable pub swept_choice : Pool → Choice
 swept_choice p = rested_at p (sweep_of p)
 
 -- the lowest unpinned frame below f
-unfoldable pub any_unpinned : List Frame → ℕ → Found
+unfoldable pub any_unpinned : List Frame → ℕ → Option ℕ
 any_unpinned fs f = least_below (unpinned fs) never f
 
 -- whether some frame below f is unpinned
@@ -60,7 +58,7 @@ some_unpinned p = on_found (any_unpinned p.frames p.settings.frames) (λ i. true
 
 -- the sweep's victim; none, and nothing changed, where every frame below f is pinned
 unfoldable pub clock_choice : Pool → Choice
-clock_choice p = pick (some_unpinned p) (swept_choice p) (unmoved p Nothing)
+clock_choice p = pick (some_unpinned p) (swept_choice p) (unmoved p None)
 
 -- distance upward from the hand, of f frames
 abbrev pub distance_from : ℕ → ℕ → ℕ → ℕ

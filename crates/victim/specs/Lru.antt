@@ -1,6 +1,5 @@
 -- LRU.
-use Rattle.std.specs.Prelude.{ℕ, Bool, List, [], ◌∷◌, nat_lt}
-use Rattle.search.specs.declared.Found.{Found}
+use Rattle.std.specs.Prelude.{ℕ, Bool, List, [], ◌∷◌, nat_lt, Option}
 use Rattle.search.specs.Search.{least_below}
 use Rattle.pool.specs.declared.Frame.{Frame}
 use Rattle.pool.specs.declared.Pool.{Pool}
@@ -12,7 +11,7 @@ abbrev pub older : List Frame → ℕ → ℕ → Bool
 older fs i j = nat_lt (frame_at fs i).last (frame_at fs j).last
 
 -- LRU: the least last step
-unfoldable pub lru_victim : List Frame → ℕ → Found
+unfoldable pub lru_victim : List Frame → ℕ → Option ℕ
 lru_victim fs f = least_below (unpinned fs) (older fs) f
 
 -- hand, sampler number and frames stay

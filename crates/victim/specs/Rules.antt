@@ -1,6 +1,5 @@
 -- The rules by number.
-use Rattle.std.specs.Prelude.{ℕ, zero, suc, Bool, false, []}
-use Rattle.search.specs.declared.Found.TheVariants.{Nothing}
+use Rattle.std.specs.Prelude.{ℕ, zero, suc, Bool, false, [], None}
 use Rattle.pool.specs.declared.Pool.{Pool}
 use Rattle.victim.specs.Choice.{Choice, Rule, unmoved}
 use Rattle.victim.specs.Lru.{lru_rule}
@@ -9,7 +8,7 @@ use Rattle.victim.specs.Watt.{watt_rule}
 
 -- no rule: it chooses nothing, orders nothing, and has no name
 abbrev pub no_rule : Rule
-no_rule = record { choice = λ p. unmoved p Nothing; order = λ p i j. false; name = [] }
+no_rule = record { choice = λ p. unmoved p None; order = λ p i j. false; name = [] }
 
 -- 0 LRU, 1 generalised clock, 2 WATT; any other number, which no sound pool has, is no rule
 abbrev pub by_rule : ℕ → Rule

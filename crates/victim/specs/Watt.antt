@@ -1,7 +1,5 @@
 -- WATT: draws, values and the victim.
-use Rattle.std.specs.Prelude.{ℕ, zero, suc, ◌+◌, ◌*◌, ◌%◌, ◌^◌, Bool, true, ◌&&◌, List, [], ◌∷◌, ◌++◌}
-use Rattle.search.specs.declared.Found.{Found}
-use Rattle.search.specs.declared.Found.TheVariants.{At}
+use Rattle.std.specs.Prelude.{ℕ, zero, suc, ◌+◌, ◌*◌, ◌%◌, ◌^◌, Bool, true, ◌&&◌, List, [], ◌∷◌, ◌++◌, Option, Some}
 use Rattle.search.specs.Search.{on_found, least_below, among}
 use Rattle.worth.specs.declared.Fraction.{Fraction}
 use Rattle.worth.specs.Value.{less_fraction, worth_of, value_of}
@@ -46,12 +44,12 @@ module _ (p : Pool) where
   less_value i j = less_fraction (value_at i) (value_at j)
 
   -- "the unpinned frame of least value, the lowest frame number on a tie", of the frames below f that count as drawn
-  abbrev pub least_value : (ℕ → Bool) → Found
+  abbrev pub least_value : (ℕ → Bool) → Option ℕ
   least_value counts = least_below (λ i. counts i && unpinned p.frames i) less_value p.settings.frames
 
   -- "if every drawn frame is pinned, all frames count as drawn"
-  unfoldable pub watt_victim : Found
-  watt_victim = on_found (least_value drawn_frame) At (least_value (λ _. true))
+  unfoldable pub watt_victim : Option ℕ
+  watt_victim = on_found (least_value drawn_frame) Some (least_value (λ _. true))
 
   -- the victim, and the sampler number after the draws; hand and frames are left alone, and all where every frame is pinned
   unfoldable pub watt_choice : Choice

@@ -7,7 +7,6 @@ ghost use Rattle.victim.specs.Clock.{rests, passed_count, next_hand, any_unpinne
 
 use crate::Chosen;
 use pool::Frame;
-use search::Found;
 use table::{Head, Table};
 
 // Whether the hand rests on a frame: unpinned, with count 0.
@@ -55,14 +54,14 @@ fn sweep<'a>(h: Head, table: &mut Table, access: &'a [u32; 1024], write: &'a [u3
     let past = next_hand(v, f);
     let hand = past as u16;
     Chosen {
-        found: Found::At(v),
+        found: Some(v),
         hand: hand,
         sampler: h.sampler,
     }
 }
 
 // The lowest unpinned frame below f.
-fn any_unpinned(table: &Table, f: usize) -> Found
+fn any_unpinned(table: &Table, f: usize) -> Option<usize>
     requires { f ≤ 128 }
     ensures { result ≡ any_unpinned (frames_in table.now) f }
 {
@@ -70,11 +69,11 @@ fn any_unpinned(table: &Table, f: usize) -> Found
     while i < f {
         let fr = table::frame_at(table, i);
         if fr.pins == 0 {
-            return Found::At(i);
+            return Some(i);
         }
         i += 1;
     }
-    Found::Nothing
+    None
 }
 
 // The victim of the sweep, or none and nothing changed where every frame is pinned.
@@ -90,9 +89,9 @@ pub fn choose<'a>(
     let f = h.settings.frames as usize;
     let free = any_unpinned(table, f);
     match free {
-        Found::At(_) => sweep(h, table, access, write),
-        Found::Nothing => Chosen {
-            found: Found::Nothing,
+        Some(_) => sweep(h, table, access, write),
+        None => Chosen {
+            found: None,
             hand: h.hand,
             sampler: h.sampler,
         },

@@ -11,13 +11,12 @@ ghost use Rattle.table.specs.Table.{pool_in};
 ghost use Rattle.victim.specs.ForCode.{choice_in, no_choice};
 ghost use Rattle.victim.specs.Rules.{by_rule, choice_of};
 
-use search::Found;
 use table::{Head, Table};
 
 // What a rule chooses: its victim or none, and hand and sampler number then. The frames that it leaves stand in the table.
 #[derive(Clone, Copy)]
 pub struct Chosen {
-    pub found: Found,
+    pub found: Option<usize>,
     pub hand: u16,
     pub sampler: u32,
 }
@@ -56,7 +55,7 @@ fn nothing(h: Head) -> Chosen
     ensures { result ≡ no_choice h }
 {
     Chosen {
-        found: Found::Nothing,
+        found: None,
         hand: h.hand,
         sampler: h.sampler,
     }

@@ -4,7 +4,7 @@ use mathlib.Core.Bool.{true}
 use mathlib.Core.List.{List, ◌∷◌}
 use Prim.Native.Nat.{ℕ}
 use lib.ListN.{replicate}
-use Rattle.search.specs.declared.Found.TheVariants.{At, Nothing}
+use Rattle.std.specs.Prelude.{Some, None}
 use Rattle.search.specs.Search.{least_below, every_below}
 use Rattle.pool.specs.declared.Frame.{Frame}
 use Rattle.pool.specs.declared.Pool.{Pool}
@@ -31,7 +31,7 @@ pub counted_sound : sound_pool counted ≡ true
 unfolding sound_pool in_range every_below sound_log last_epoch_of fresh_pool
 counted_sound = refl
 
-pub counted_victim : (clock_choice counted).found ≡ At 1
+pub counted_victim : (clock_choice counted).found ≡ Some 1
 unfolding clock_choice swept_choice sweep_of sweep_from any_unpinned least_below fresh_pool
 counted_victim = refl
 
@@ -50,16 +50,16 @@ unfolding clock_choice swept_choice sweep_of sweep_from any_unpinned least_below
 pinned_passed = refl
 
 -- every frame pinned: no victim
-pub all_pinned : (clock_choice (pool_of 2 2 1 (held 1 1 2 0 ∷ held 2 1 0 1 ∷ replicate 126 empty_frame))).found ≡ Nothing
+pub all_pinned : (clock_choice (pool_of 2 2 1 (held 1 1 2 0 ∷ held 2 1 0 1 ∷ replicate 126 empty_frame))).found ≡ None
 unfolding clock_choice swept_choice sweep_of sweep_from any_unpinned least_below fresh_pool
 all_pinned = refl
 
 -- 128 frames, each count 7, pages and last steps left aside: the hand goes round seven times and rests on the first
-pub longest : (clock_choice (pool_of 128 7 0 (replicate 128 (held 1 0 7 0)))).found ≡ At 0
+pub longest : (clock_choice (pool_of 128 7 0 (replicate 128 (held 1 0 7 0)))).found ≡ Some 0
 unfolding clock_choice swept_choice sweep_of sweep_from any_unpinned least_below fresh_pool
 longest = refl
 
 -- the same frames under LRU: frame 1, the least last step
-pub lru_victim_lem : (lru_choice counted).found ≡ At 1
+pub lru_victim_lem : (lru_choice counted).found ≡ Some 1
 unfolding lru_choice lru_victim least_below fresh_pool
 lru_victim_lem = refl

@@ -4,7 +4,7 @@ use mathlib.Core.Bool.{true}
 use mathlib.Core.List.{◌∷◌}
 use Prim.Native.Nat.{ℕ, ◌+◌, ◌/◌}
 use lib.ListN.{set, replicate}
-use Rattle.search.specs.declared.Found.TheVariants.{At, Nothing}
+use Rattle.std.specs.Prelude.{Some, None}
 use Rattle.search.specs.Search.{least_below, every_below, among}
 use Rattle.worth.specs.Value.{less_fraction, greater_of, worth_of, value_of}
 use Rattle.settings.specs.Settings.{in_range, one_frame, set_rule, set_frames, set_sample, set_span}
@@ -35,20 +35,20 @@ unfolding sound_pool sound_log every_below in_range last_epoch_of fresh_pool
 four_sound = refl
 
 -- values 1/40, 1/30, 1/20 and 1/10: frame 1 is the least of those drawn
-pub least_drawn : watt_victim (four 1 0 0 0 0) ≡ At 1
+pub least_drawn : watt_victim (four 1 0 0 0 0) ≡ Some 1
 unfolding watt_victim least_below among draws sampler_after next_sampler value_at value_of worth_of greater_of less_fraction now_of fresh_pool
 least_drawn = refl
 
 -- the drawn frames are pinned, frame 0 is not: it is the victim
-pub drawn_pinned : watt_victim (four 1 0 1 1 1) ≡ At 0
+pub drawn_pinned : watt_victim (four 1 0 1 1 1) ≡ Some 0
 unfolding watt_victim least_below among draws sampler_after next_sampler value_at value_of worth_of greater_of less_fraction now_of fresh_pool
 drawn_pinned = refl
 
 -- in one epoch all values are 1/10: the lowest drawn frame that is not pinned
-pub tied : watt_victim (four 10 0 1 0 0) ≡ At 2
+pub tied : watt_victim (four 10 0 1 0 0) ≡ Some 2
 unfolding watt_victim least_below among draws sampler_after next_sampler value_at value_of worth_of greater_of less_fraction now_of fresh_pool
 tied = refl
 
-pub all_pinned : watt_victim (four 1 1 1 1 1) ≡ Nothing
+pub all_pinned : watt_victim (four 1 1 1 1 1) ≡ None
 unfolding watt_victim least_below among draws sampler_after next_sampler value_at value_of worth_of greater_of less_fraction now_of fresh_pool
 all_pinned = refl

@@ -3,7 +3,7 @@ use mathlib.Core.Path.{◌≡◌, ap, ◌∙◌}
 use mathlib.Core.Bool.{Bool}
 use native.Mathlib.Omega.{arith}
 use lib.ListN.{length, length-set}
-use Rattle.search.specs.declared.Found.TheVariants.{At}
+use Rattle.std.specs.Prelude.{Some}
 use Rattle.search.specs.Search.{least_below}
 use Rattle.search.specs.ForCode.{keyed}
 use Rattle.batch.specs.ForCode.{has_key, key_rank}
@@ -29,7 +29,7 @@ returns-then-low c =
 pub overflow_add-at : goal.overflow_add-at
 overflow_add-at c =
     let k = c.args.keys.now in
-    let g : least_below (key_rest k c.args.f c.loop-n.n) (key_before k) c.args.f ≡ At (c.lowest-low.result % 128) =
+    let g : least_below (key_rest k c.args.f c.loop-n.n) (key_before k) c.args.f ≡ Some (c.lowest-low.result % 128) =
     lowest_found c.loop-n.keys (key_rest k c.args.f c.loop-n.n) (key_rank k) c.args.f c.lowest-low.result c.requires.0 c.loop-n.invariant.3 (small_ranks k c.args.f c.loop-n.n c.requires.2) c.lowest-low.ensures c.if-low.false in
     let h : c.args.at + c.loop-n.n < length c.args.out.now = found_room _ _ _ _ _ c.args.out.now _ _ c.loop-n.n c.loop-n.invariant.2 _ g c.args.most c.loop-n-test.true c.requires.3 in
     omega arith
@@ -37,7 +37,7 @@ overflow_add-at c =
 pub write_one-requires : goal.write_one-requires
 write_one-requires c =
     let k = c.args.keys.now in
-    let g : least_below (key_rest k c.args.f c.loop-n.n) (key_before k) c.args.f ≡ At (c.lowest-low.result % 128) =
+    let g : least_below (key_rest k c.args.f c.loop-n.n) (key_before k) c.args.f ≡ Some (c.lowest-low.result % 128) =
     lowest_found c.loop-n.keys (key_rest k c.args.f c.loop-n.n) (key_rank k) c.args.f c.lowest-low.result c.requires.0 c.loop-n.invariant.3 (small_ranks k c.args.f c.loop-n.n c.requires.2) c.lowest-low.ensures c.if-low.false in
     let h : c.args.at + c.loop-n.n < length c.args.out.now = found_room _ _ _ _ _ c.args.out.now _ _ c.loop-n.n c.loop-n.invariant.2 _ g c.args.most c.loop-n-test.true c.requires.3 in
     let l = wrote_length _ _ _ _ _ _ _ c.loop-n.invariant.2 in
@@ -47,7 +47,7 @@ pub loop-n-preserved : goal.loop-n-preserved
 loop-n-preserved c =
     let r = c.loop-n in
     let k = c.args.keys.now in
-    let g : least_below (key_rest k c.args.f c.loop-n.n) (key_before k) c.args.f ≡ At (c.lowest-low.result % 128) =
+    let g : least_below (key_rest k c.args.f c.loop-n.n) (key_before k) c.args.f ≡ Some (c.lowest-low.result % 128) =
     lowest_found c.loop-n.keys (key_rest k c.args.f c.loop-n.n) (key_rank k) c.args.f c.lowest-low.result c.requires.0 c.loop-n.invariant.3 (small_ranks k c.args.f c.loop-n.n c.requires.2) c.lowest-low.ensures c.if-low.false in
     let here : c.lowest-low.result % 128 < length r.keys = rw r.invariant.1 (omega arith) in (
       omega arith,

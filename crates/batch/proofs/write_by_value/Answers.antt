@@ -3,7 +3,7 @@ use mathlib.Core.Path.{◌≡◌, sym, ◌∙◌}
 use mathlib.Core.Bool.{false}
 use native.Mathlib.Omega.{arith}
 use lib.ListN.{length, length-set}
-use Rattle.search.specs.declared.Found.TheVariants.{At}
+use Rattle.std.specs.Prelude.{Some}
 use Rattle.search.specs.Search.{least_below}
 use Rattle.batch.proofs.Batching.{starts, all_remain, marked, found_below, found_room, kept_more, turn, ends}
 use Rattle.batch.proofs.Left.{marks, value_before, value_rest}
@@ -25,31 +25,31 @@ returns-in_default c =
 pub overflow_add-at : goal.overflow_add-at
 overflow_add-at c =
     let a = c.args.first in
-    let g : least_below (value_rest a.waiting a.nums a.dens c.args.f c.loop-n.n) (value_before a.nums a.dens) c.args.f ≡ At c.in-At.i =
-    marked (marks a.waiting) (value_before a.nums a.dens) c.args.f c.loop-n.n c.loop-n.waiting _ c.loop-n.invariant.3 (sym c.in-At.is ∙ c.next-found.ensures) in
+    let g : least_below (value_rest a.waiting a.nums a.dens c.args.f c.loop-n.n) (value_before a.nums a.dens) c.args.f ≡ Some c.in-Some.i =
+    marked (marks a.waiting) (value_before a.nums a.dens) c.args.f c.loop-n.n c.loop-n.waiting _ c.loop-n.invariant.3 (sym c.in-Some.is ∙ c.next-found.ensures) in
     let h : c.args.at + c.loop-n.n < length c.args.out.now = found_room _ _ _ _ _ c.args.out.now _ _ c.loop-n.n c.loop-n.invariant.2 _ g c.args.most c.loop-n-test.true c.requires.2 in
     omega arith
 
 pub write_one-requires : goal.write_one-requires
 write_one-requires c =
     let a = c.args.first in
-    let g : least_below (value_rest a.waiting a.nums a.dens c.args.f c.loop-n.n) (value_before a.nums a.dens) c.args.f ≡ At c.in-At.i =
-    marked (marks a.waiting) (value_before a.nums a.dens) c.args.f c.loop-n.n c.loop-n.waiting _ c.loop-n.invariant.3 (sym c.in-At.is ∙ c.next-found.ensures) in
+    let g : least_below (value_rest a.waiting a.nums a.dens c.args.f c.loop-n.n) (value_before a.nums a.dens) c.args.f ≡ Some c.in-Some.i =
+    marked (marks a.waiting) (value_before a.nums a.dens) c.args.f c.loop-n.n c.loop-n.waiting _ c.loop-n.invariant.3 (sym c.in-Some.is ∙ c.next-found.ensures) in
     let h : c.args.at + c.loop-n.n < length c.args.out.now = found_room _ _ _ _ _ c.args.out.now _ _ c.loop-n.n c.loop-n.invariant.2 _ g c.args.most c.loop-n-test.true c.requires.2 in
-    let below : c.in-At.i < c.args.f = found_below _ _ _ _ _ _ _ _ c.loop-n.n c.loop-n.invariant.2 _ g in
+    let below : c.in-Some.i < c.args.f = found_below _ _ _ _ _ _ _ _ c.loop-n.n c.loop-n.invariant.2 _ g in
     let few = c.requires.0 in
-    let b : c.in-At.i < 128 = omega arith in
+    let b : c.in-Some.i < 128 = omega arith in
     let l = wrote_length _ _ _ _ _ _ _ c.loop-n.invariant.2 in
     (b, omega arith)
 
 pub bounds-waiting-i : goal.bounds-waiting-i
 bounds-waiting-i c =
     let a = c.args.first in
-    let g : least_below (value_rest a.waiting a.nums a.dens c.args.f c.loop-n.n) (value_before a.nums a.dens) c.args.f ≡ At c.in-At.i =
-    marked (marks a.waiting) (value_before a.nums a.dens) c.args.f c.loop-n.n c.loop-n.waiting _ c.loop-n.invariant.3 (sym c.in-At.is ∙ c.next-found.ensures) in
-    let below : c.in-At.i < c.args.f = found_below _ _ _ _ _ _ _ _ c.loop-n.n c.loop-n.invariant.2 _ g in
+    let g : least_below (value_rest a.waiting a.nums a.dens c.args.f c.loop-n.n) (value_before a.nums a.dens) c.args.f ≡ Some c.in-Some.i =
+    marked (marks a.waiting) (value_before a.nums a.dens) c.args.f c.loop-n.n c.loop-n.waiting _ c.loop-n.invariant.3 (sym c.in-Some.is ∙ c.next-found.ensures) in
+    let below : c.in-Some.i < c.args.f = found_below _ _ _ _ _ _ _ _ c.loop-n.n c.loop-n.invariant.2 _ g in
     let few = c.requires.0 in
-    let b : c.in-At.i < 128 = omega arith in
+    let b : c.in-Some.i < 128 = omega arith in
     let l = c.loop-n.invariant.1 in
     omega arith
 
@@ -57,12 +57,12 @@ pub loop-n-preserved : goal.loop-n-preserved
 loop-n-preserved c =
     let r = c.loop-n in
     let a = c.args.first in
-    let g : least_below (value_rest a.waiting a.nums a.dens c.args.f c.loop-n.n) (value_before a.nums a.dens) c.args.f ≡ At c.in-At.i =
-    marked (marks a.waiting) (value_before a.nums a.dens) c.args.f c.loop-n.n c.loop-n.waiting _ c.loop-n.invariant.3 (sym c.in-At.is ∙ c.next-found.ensures) in
-    let below : c.in-At.i < c.args.f = found_below _ _ _ _ _ _ _ _ c.loop-n.n c.loop-n.invariant.2 _ g in
+    let g : least_below (value_rest a.waiting a.nums a.dens c.args.f c.loop-n.n) (value_before a.nums a.dens) c.args.f ≡ Some c.in-Some.i =
+    marked (marks a.waiting) (value_before a.nums a.dens) c.args.f c.loop-n.n c.loop-n.waiting _ c.loop-n.invariant.3 (sym c.in-Some.is ∙ c.next-found.ensures) in
+    let below : c.in-Some.i < c.args.f = found_below _ _ _ _ _ _ _ _ c.loop-n.n c.loop-n.invariant.2 _ g in
     let few = c.requires.0 in
-    let b : c.in-At.i < 128 = omega arith in
-    let here : c.in-At.i < length r.waiting = rw r.invariant.1 b in (
+    let b : c.in-Some.i < 128 = omega arith in
+    let here : c.in-Some.i < length r.waiting = rw r.invariant.1 b in (
       omega arith,
       length-set r.waiting _ _ ∙ r.invariant.1,
       turn _ _ _ _ _ _ _ _ r.n r.invariant.2 _ g _ _ c.write_one.ensures,

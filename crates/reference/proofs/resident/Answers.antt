@@ -1,7 +1,7 @@
 use mathlib.Core.Path.{◌≡◌, ap, sym, ◌∙◌}
 use native.Mathlib.Omega.{arith}
 use lib.Dec.{eqb}
-use Rattle.search.specs.declared.Found.{Found}
+use Rattle.std.specs.Prelude.{ℕ, Option}
 use Rattle.search.specs.Search.{is_found}
 use Rattle.search.proofs.Past.{seen_none, seen_more}
 use Rattle.pool.specs.declared.Frame.{Frame}
@@ -23,4 +23,4 @@ loop-i-preserved c =
 pub returns : goal.returns
 returns c =
     let e : c.loop-i.i ≡ c.args.n = omega arith in
-    rw e at c.loop-i.invariant.2 ∙ ap (λ (f : Found). is_found f) (among_all _ _ _ c.requires)
+    rw e at c.loop-i.invariant.2 ∙ ap (λ (f : Option ℕ). is_found f) (among_all _ _ _ c.requires)

@@ -1,8 +1,6 @@
 -- What the clock owes, as every rule; that its sweep comes to rest, and where.
-use Rattle.std.proofs.Common.{◌≡◌, ℕ, zero, suc, ◌+◌, ◌-◌, ◌*◌, ◌<◌, ◌≤◌, Bool, true, false, eqb, List, map, length, set, sym, refl, ap, ◌∙◌, subst, true≢false, arith, length-set, eqb-true}
+use Rattle.std.proofs.Common.{◌≡◌, ℕ, zero, suc, ◌+◌, ◌-◌, ◌*◌, ◌<◌, ◌≤◌, Bool, true, false, eqb, List, map, length, set, sym, refl, ap, ◌∙◌, subst, true≢false, arith, length-set, eqb-true, Option, Some, None}
 use mathlib.Core.Bool.{and-eq-true_iff}
-use Rattle.search.specs.declared.Found.{Found}
-use Rattle.search.specs.declared.Found.TheVariants.{At, Nothing}
 use Rattle.search.specs.Search.{pick, on_found, never}
 use Rattle.search.proofs.Least.{one_or_none, least_none, least_none_of, least_cong}
 use Rattle.search.proofs.Every.{pick_ind}
@@ -142,28 +140,28 @@ module _ (new : Bool → ℕ → ℕ) (stays : EmptyStays new) where
 
 -- Its two cases.
 
-clock_cases : (P : Choice → Type 0) (p : Pool) → (some_unpinned p ≡ true → P (swept_choice p)) → (some_unpinned p ≡ false → P (unmoved p Nothing)) → P (clock_choice p)
+clock_cases : (P : Choice → Type 0) (p : Pool) → (some_unpinned p ≡ true → P (swept_choice p)) → (some_unpinned p ≡ false → P (unmoved p None)) → P (clock_choice p)
 unfolding clock_choice
-clock_cases P p f g = pick_ind P (some_unpinned p) (swept_choice p) (unmoved p Nothing) f g
+clock_cases P p f g = pick_ind P (some_unpinned p) (swept_choice p) (unmoved p None) f g
 
 none_free : (p : Pool) → some_unpinned p ≡ false → AllPinned p
 unfolding any_unpinned
 none_free p s i l = go (any_unpinned p.frames p.settings.frames) refl s
   where
-    go : (r : Found) → any_unpinned p.frames p.settings.frames ≡ r → on_found r (λ i. true) false ≡ false → unpinned p.frames i ≡ false
-    go Nothing e s = least_none (unpinned p.frames) never p.settings.frames i e l
-    go (At j) e s = absurd (true≢false s)
+    go : (r : Option ℕ) → any_unpinned p.frames p.settings.frames ≡ r → on_found r (λ i. true) false ≡ false → unpinned p.frames i ≡ false
+    go None e s = least_none (unpinned p.frames) never p.settings.frames i e l
+    go (Some j) e s = absurd (true≢false s)
 
 free_none : (p : Pool) → AllPinned p → some_unpinned p ≡ false
 unfolding any_unpinned
-free_none p all = ap (λ (r : Found). on_found r (λ i. true) false) (least_none_of (unpinned p.frames) never p.settings.frames all)
+free_none p all = ap (λ (r : Option ℕ). on_found r (λ i. true) false) (least_none_of (unpinned p.frames) never p.settings.frames all)
 
 -- The laws.
 
 -- its victim lies below f and is unpinned
-pub clock_unpinned : (p : Pool) (v : ℕ) → Sound p → (clock_choice p).found ≡ At v → (v < p.settings.frames) × (unpinned p.frames v ≡ true)
+pub clock_unpinned : (p : Pool) (v : ℕ) → Sound p → (clock_choice p).found ≡ Some v → (v < p.settings.frames) × (unpinned p.frames v ≡ true)
 unfolding swept_choice
-clock_unpinned p v sound = clock_cases (λ c. c.found ≡ At v → (v < p.settings.frames) × (unpinned p.frames v ≡ true)) p
+clock_unpinned p v sound = clock_cases (λ c. c.found ≡ Some v → (v < p.settings.frames) × (unpinned p.frames v ≡ true)) p
     (λ some e. let z : (sweep_of p).0 ≡ v = cc in
     let r = swept_rests p sound some in
     let free = ((and-eq-true_iff (unpinned (sweep_of p).1 (sweep_of p).0) (eqb (frame_at (sweep_of p).1 (sweep_of p).0).count 0)).0 r.rest).0 in
@@ -175,8 +173,8 @@ clock_unpinned p v sound = clock_cases (λ c. c.found ≡ At v → (v < p.settin
 pub clock_serves : Serves clock_choice
 unfolding swept_choice
 clock_serves p = (
-  clock_cases (λ c. c.found ≡ Nothing → AllPinned p) p (λ some e. absurd (one_or_none (sweep_of p).0 e)) (λ none e. none_free p none),
-  λ all. clock_cases (λ c. c.found ≡ Nothing) p (λ some. absurd (true≢false (sym some ∙ free_none p all))) (λ none. refl),
+  clock_cases (λ c. c.found ≡ None → AllPinned p) p (λ some e. absurd (one_or_none (sweep_of p).0 e)) (λ none e. none_free p none),
+  λ all. clock_cases (λ c. c.found ≡ None) p (λ some. absurd (true≢false (sym some ∙ free_none p all))) (λ none. refl),
 )
 
 -- it keeps of each frame all but the count, which it does not raise, and all of a pinned one
@@ -212,17 +210,17 @@ clock_sound p sound = sound_quiet p (left_by p (clock_choice p)) sound (clock_qu
 pub clock_pages : (new : Bool → ℕ → ℕ) → EmptyStays new → (p : Pool) → clock_choice (repaged_pool new p) ≡ repaged_choice new (clock_choice p)
 unfolding clock_choice
 clock_pages new stays p =
-    ap (λ (r : Found). pick (on_found r (λ i. true) false) (swept_choice (repaged_pool new p)) (unmoved (repaged_pool new p) Nothing)) (any_repaged new stays p.frames p.settings.frames)
+    ap (λ (r : Option ℕ). pick (on_found r (λ i. true) false) (swept_choice (repaged_pool new p)) (unmoved (repaged_pool new p) None)) (any_repaged new stays p.frames p.settings.frames)
     ∙ go (some_unpinned p)
   where
-    go : (b : Bool) → pick b (swept_choice (repaged_pool new p)) (unmoved (repaged_pool new p) Nothing) ≡ repaged_choice new (pick b (swept_choice p) (unmoved p Nothing))
+    go : (b : Bool) → pick b (swept_choice (repaged_pool new p)) (unmoved (repaged_pool new p) None) ≡ repaged_choice new (pick b (swept_choice p) (unmoved p None))
     go true = swept_repaged new stays p
     go false = refl
 
 -- where it finds none it leaves the pool as it was
-pub clock_still : (p : Pool) → (clock_choice p).found ≡ Nothing → left_by p (clock_choice p) ≡ p
+pub clock_still : (p : Pool) → (clock_choice p).found ≡ None → left_by p (clock_choice p) ≡ p
 unfolding swept_choice
-clock_still p = clock_cases (λ c. c.found ≡ Nothing → left_by p c ≡ p) p (λ some e. absurd (one_or_none (sweep_of p).0 e)) (λ none e. refl)
+clock_still p = clock_cases (λ c. c.found ≡ None → left_by p c ≡ p) p (λ some e. absurd (one_or_none (sweep_of p).0 e)) (λ none e. refl)
 
 clock_sorts : (new : Bool → ℕ → ℕ) → EmptyStays new → (p : Pool) (i j : ℕ) → sooner (repaged_pool new p) i j ≡ sooner p i j
 clock_sorts new stays p i j = rw (frame_repaged new stays p.frames i, frame_repaged new stays p.frames j)
@@ -231,9 +229,9 @@ pub clock_owes : Owes clock_rule
 clock_owes = record { unpinned = clock_unpinned; still = clock_still; lowers = clock_lowers; long = clock_long; quiet = clock_quiet; sound = clock_sound; pages = clock_pages; sorts = clock_sorts }
 
 -- the victim's count after the sweep is 0, and the hand is then one past it
-pub clock_rest : (p : Pool) (v : ℕ) → Sound p → (clock_choice p).found ≡ At v → ((frame_at (clock_choice p).frames v).count ≡ 0) × ((clock_choice p).hand ≡ next_hand p.settings.frames v)
+pub clock_rest : (p : Pool) (v : ℕ) → Sound p → (clock_choice p).found ≡ Some v → ((frame_at (clock_choice p).frames v).count ≡ 0) × ((clock_choice p).hand ≡ next_hand p.settings.frames v)
 unfolding swept_choice
-clock_rest p v sound = clock_cases (λ c. c.found ≡ At v → ((frame_at c.frames v).count ≡ 0) × (c.hand ≡ next_hand p.settings.frames v)) p
+clock_rest p v sound = clock_cases (λ c. c.found ≡ Some v → ((frame_at c.frames v).count ≡ 0) × (c.hand ≡ next_hand p.settings.frames v)) p
     (λ some e. let z : (sweep_of p).0 ≡ v = cc in
     let r = swept_rests p sound some in
     let low = ((and-eq-true_iff (unpinned (sweep_of p).1 (sweep_of p).0) (eqb (frame_at (sweep_of p).1 (sweep_of p).0).count 0)).0 r.rest).1 in

@@ -1,7 +1,5 @@
 -- The invariant of the clock sweep's loop, with its start, its turn and its end, over variables.
-use Rattle.std.proofs.Common.{◌≡◌, ℕ, zero, suc, ◌+◌, ◌*◌, ◌<◌, ◌≤◌, true, false, List, set, sym, refl, ap, ◌∙◌, true≢false, mul-le-mul_left, arith}
-use Rattle.search.specs.declared.Found.{Found}
-use Rattle.search.specs.declared.Found.TheVariants.{At, Nothing}
+use Rattle.std.proofs.Common.{◌≡◌, ℕ, zero, suc, ◌+◌, ◌*◌, ◌<◌, ◌≤◌, true, false, List, set, sym, refl, ap, ◌∙◌, true≢false, mul-le-mul_left, arith, Option, Some, None}
 use Rattle.search.specs.Search.{on_found, never}
 use Rattle.search.proofs.Least.{least_sound}
 use Rattle.settings.proofs.Laws.{ranges}
@@ -15,9 +13,9 @@ use Rattle.victim.proofs.clock.Falling.{dist_below, next_below, passed_unpinned,
 
 -- The unpinned frame that a sweep comes to at the latest.
 
-at : Found → ℕ
-at Nothing = 0
-at (At i) = i
+at : Option ℕ → ℕ
+at None = 0
+at (Some i) = i
 
 pub home : Pool → ℕ
 home p = at (any_unpinned p.frames p.settings.frames)
@@ -26,9 +24,9 @@ pub home_free : (p : Pool) → some_unpinned p ≡ true → (home p < p.settings
 unfolding home at any_unpinned
 home_free p some = go (any_unpinned p.frames p.settings.frames) refl some
   where
-    go : (r : Found) → any_unpinned p.frames p.settings.frames ≡ r → on_found r (λ i. true) false ≡ true → (at r < p.settings.frames) × (unpinned p.frames (at r) ≡ true)
-    go Nothing e s = absurd (true≢false (sym s))
-    go (At i) e s = least_sound (unpinned p.frames) never p.settings.frames i e
+    go : (r : Option ℕ) → any_unpinned p.frames p.settings.frames ≡ r → on_found r (λ i. true) false ≡ true → (at r < p.settings.frames) × (unpinned p.frames (at r) ≡ true)
+    go None e s = absurd (true≢false (sym s))
+    go (Some i) e s = least_sound (unpinned p.frames) never p.settings.frames i e
 
 -- at the start fewer visits are left than f × (cap + 1)
 pub to_go_few : (p : Pool) (u : ℕ) → Sound p → u < p.settings.frames → to_go p.settings.frames u p.frames p.hand < p.settings.frames * (p.settings.cap + 1)
@@ -94,19 +92,19 @@ module _ (p : Pool) (fs : List Frame) (h : ℕ) (s : Sweeping p fs h) where
   stopped r (suc n) l e = sym (sweep_stop n p.settings.frames h fs r) ∙ e
 
   -- the visit that rests
-  pub end : (fr : Frame) (k : ℕ) → fr ≡ frame_at fs h → rests fr ≡ true → k ≡ next_hand p.settings.frames h → ◌≡◌ {A = Choice} (record { found = At h; hand = k; sampler = p.sampler; frames = fs }) (swept_choice p)
+  pub end : (fr : Frame) (k : ℕ) → fr ≡ frame_at fs h → rests fr ≡ true → k ≡ next_hand p.settings.frames h → ◌≡◌ {A = Choice} (record { found = Some h; hand = k; sampler = p.sampler; frames = fs }) (swept_choice p)
   unfolding swept_choice
   end fr k e r d = rw d (ap (rested_at p) (stopped (rw e at r) s.fuel s.enough s.same))
 
 -- The two ways through a choice.
 
-pub some_free : (p : Pool) (i : ℕ) → any_unpinned p.frames p.settings.frames ≡ At i → some_unpinned p ≡ true
+pub some_free : (p : Pool) (i : ℕ) → any_unpinned p.frames p.settings.frames ≡ Some i → some_unpinned p ≡ true
 some_free p i e = rw e
 
-pub way_swept : (p : Pool) (c : Choice) (i : ℕ) → any_unpinned p.frames p.settings.frames ≡ At i → c ≡ swept_choice p → c ≡ clock_choice p
+pub way_swept : (p : Pool) (c : Choice) (i : ℕ) → any_unpinned p.frames p.settings.frames ≡ Some i → c ≡ swept_choice p → c ≡ clock_choice p
 unfolding clock_choice
 way_swept p c i e d = rw (e, d)
 
-pub way_pinned : (p : Pool) (c : Choice) → any_unpinned p.frames p.settings.frames ≡ Nothing → c ≡ unmoved p Nothing → c ≡ clock_choice p
+pub way_pinned : (p : Pool) (c : Choice) → any_unpinned p.frames p.settings.frames ≡ None → c ≡ unmoved p None → c ≡ clock_choice p
 unfolding clock_choice
 way_pinned p c e d = rw (e, d)

@@ -1,8 +1,6 @@
 -- What WATT owes.
-use Rattle.std.proofs.Common.{◌≡◌, ℕ, ◌<◌, Bool, true, false, not, ◌&&◌, ◌||◌, eqb, ltb, ◌⊎◌, refl, ap, ◌∙◌, inl, inr, ltb-true}
+use Rattle.std.proofs.Common.{◌≡◌, ℕ, ◌<◌, Bool, true, false, not, ◌&&◌, ◌||◌, eqb, ltb, ◌⊎◌, refl, ap, ◌∙◌, inl, inr, ltb-true, Option, Some, None}
 use mathlib.Core.Bool.{and-eq-true_iff, and-false}
-use Rattle.search.specs.declared.Found.{Found}
-use Rattle.search.specs.declared.Found.TheVariants.{At, Nothing}
 use Rattle.search.specs.Search.{on_found}
 use Rattle.search.proofs.Least.{Order, one_or_none, not_both, least_sound, least_none, least_none_of, least_cong, least_least, least_lowest}
 use Rattle.worth.specs.Value.{ahead}
@@ -42,54 +40,54 @@ module _ (p : Pool) where
   DrawnPinned = (i : ℕ) → i < p.settings.frames → drawn_frame p i ≡ true → unpinned p.frames i ≡ false
 
   -- the two ways to a victim
-  victim_cases : (P : Found → Type 0)
-      → ((v : ℕ) → least_value p (drawn_frame p) ≡ At v → P (At v))
-      → (least_value p (drawn_frame p) ≡ Nothing → P (least_value p (λ _. true)))
+  victim_cases : (P : Option ℕ → Type 0)
+      → ((v : ℕ) → least_value p (drawn_frame p) ≡ Some v → P (Some v))
+      → (least_value p (drawn_frame p) ≡ None → P (least_value p (λ _. true)))
       → P (watt_victim p)
   unfolding watt_victim
   victim_cases P g h = go (least_value p (drawn_frame p)) refl
     where
-      go : (r : Found) → least_value p (drawn_frame p) ≡ r → P (on_found r At (least_value p (λ _. true)))
-      go (At v) e = g v e
-      go Nothing e = h e
+      go : (r : Option ℕ) → least_value p (drawn_frame p) ≡ r → P (on_found r Some (least_value p (λ _. true)))
+      go (Some v) e = g v e
+      go None e = h e
 
   abbrev eligible : (ℕ → Bool) → ℕ → Bool
   eligible counts i = counts i && unpinned p.frames i
 
-  found_by : (counts : ℕ → Bool) (v : ℕ) → least_value p counts ≡ At v → (v < p.settings.frames) × (counts v ≡ true) × (unpinned p.frames v ≡ true)
+  found_by : (counts : ℕ → Bool) (v : ℕ) → least_value p counts ≡ Some v → (v < p.settings.frames) × (counts v ≡ true) × (unpinned p.frames v ≡ true)
   found_by counts v h =
       let s = least_sound (eligible counts) (less_value p) p.settings.frames v h in
       let b = (and-eq-true_iff (counts v) (unpinned p.frames v)).0 s.1 in
       (s.0, b.0, b.1)
 
-  none_by : (counts : ℕ → Bool) (i : ℕ) → least_value p counts ≡ Nothing → i < p.settings.frames → counts i ≡ true → unpinned p.frames i ≡ false
+  none_by : (counts : ℕ → Bool) (i : ℕ) → least_value p counts ≡ None → i < p.settings.frames → counts i ≡ true → unpinned p.frames i ≡ false
   none_by counts i h l t = rw t at (least_none (eligible counts) (less_value p) p.settings.frames i h l)
 
   -- its victim lies below f and is unpinned
-  pub watt_unpinned : (v : ℕ) → (watt_choice p).found ≡ At v → (v < p.settings.frames) × (unpinned p.frames v ≡ true)
+  pub watt_unpinned : (v : ℕ) → (watt_choice p).found ≡ Some v → (v < p.settings.frames) × (unpinned p.frames v ≡ true)
   unfolding watt_choice
   watt_unpinned v =
-      victim_cases (λ r. r ≡ At v → (v < p.settings.frames) × (unpinned p.frames v ≡ true))
+      victim_cases (λ r. r ≡ Some v → (v < p.settings.frames) × (unpinned p.frames v ≡ true))
       (λ w h e. let s = found_by (drawn_frame p) v (h ∙ e) in (s.0, s.2))
       (λ _ e. let s = found_by (λ _. true) v e in (s.0, s.2))
 
   -- it finds none exactly where every frame below f is pinned
-  pub watt_serves : ((watt_choice p).found ≡ Nothing → AllPinned p) × (AllPinned p → (watt_choice p).found ≡ Nothing)
+  pub watt_serves : ((watt_choice p).found ≡ None → AllPinned p) × (AllPinned p → (watt_choice p).found ≡ None)
   unfolding watt_choice
   watt_serves = (
-    victim_cases (λ r. r ≡ Nothing → AllPinned p)
+    victim_cases (λ r. r ≡ None → AllPinned p)
         (λ v _ e. absurd (one_or_none v e))
         (λ _ e i l. none_by (λ _. true) i e l refl),
-    λ pinned. victim_cases (λ r. r ≡ Nothing)
+    λ pinned. victim_cases (λ r. r ≡ None)
         (λ v h. let s = found_by (drawn_frame p) v h in absurd (not_both (unpinned p.frames v) s.2 (pinned v s.0)))
         (λ _. least_none_of (eligible (λ _. true)) (less_value p) p.settings.frames pinned),
   )
 
   -- its victim was drawn, unless every drawn frame is pinned
-  pub watt_drawn : (v : ℕ) → (watt_choice p).found ≡ At v → (drawn_frame p v ≡ true) ⊎ DrawnPinned
+  pub watt_drawn : (v : ℕ) → (watt_choice p).found ≡ Some v → (drawn_frame p v ≡ true) ⊎ DrawnPinned
   unfolding watt_choice
   watt_drawn v =
-      victim_cases (λ r. r ≡ At v → (drawn_frame p v ≡ true) ⊎ DrawnPinned)
+      victim_cases (λ r. r ≡ Some v → (drawn_frame p v ≡ true) ⊎ DrawnPinned)
       (λ w h e. inl (found_by (drawn_frame p) v (h ∙ e)).1)
       (λ h _. inr (λ i l t. none_by (drawn_frame p) i h l t))
 
@@ -104,7 +102,7 @@ module _ (p : Pool) where
   pub watt_order : Order (less_value p)
   watt_order = value_ordered p
 
-  least_by : (counts : ℕ → Bool) (v j : ℕ) → least_value p counts ≡ At v → j < p.settings.frames → counts j ≡ true → unpinned p.frames j ≡ true
+  least_by : (counts : ℕ → Bool) (v j : ℕ) → least_value p counts ≡ Some v → j < p.settings.frames → counts j ≡ true → unpinned p.frames j ≡ true
       → ahead (value_at p) j v ≡ false
   least_by counts v j h l c u =
       let t : eligible counts j ≡ true = rw (c, u) in
@@ -113,16 +111,16 @@ module _ (p : Pool) where
       (λ m. least_lowest (eligible counts) (less_value p) watt_order p.settings.frames v j h m t)
 
   -- of the unpinned frames that count as drawn none has a lower value than the victim, nor the same value and a lower number
-  pub watt_least : (v j : ℕ) → (watt_choice p).found ≡ At v → j < p.settings.frames → unpinned p.frames j ≡ true
+  pub watt_least : (v j : ℕ) → (watt_choice p).found ≡ Some v → j < p.settings.frames → unpinned p.frames j ≡ true
       → (drawn_frame p j ≡ true) ⊎ DrawnPinned → ahead (value_at p) j v ≡ false
   unfolding watt_choice
   watt_least v j h l u c =
-      victim_cases (λ r. r ≡ At v → ahead (value_at p) j v ≡ false)
+      victim_cases (λ r. r ≡ Some v → ahead (value_at p) j v ≡ false)
       (λ w k e. by_draw (k ∙ e) c)
       (λ _ e. least_by (λ _. true) v j e l refl u)
       h
     where
-      by_draw : least_value p (drawn_frame p) ≡ At v → (drawn_frame p j ≡ true) ⊎ DrawnPinned → ahead (value_at p) j v ≡ false
+      by_draw : least_value p (drawn_frame p) ≡ Some v → (drawn_frame p j ≡ true) ⊎ DrawnPinned → ahead (value_at p) j v ≡ false
       by_draw k (inl d) = least_by (drawn_frame p) v j k l d u
       by_draw k (inr g) = let s = found_by (drawn_frame p) v k in absurd (not_both (unpinned p.frames v) s.2 (g v s.0 s.1))
 
@@ -136,7 +134,7 @@ module _ (p : Pool) where
   watt_sound s = sound_quiet p (left_by p (watt_choice p)) s (watt_quiet s)
 
 -- where it finds none it leaves the pool as it was
-pub watt_still : (p : Pool) → (watt_choice p).found ≡ Nothing → left_by p (watt_choice p) ≡ p
+pub watt_still : (p : Pool) → (watt_choice p).found ≡ None → left_by p (watt_choice p) ≡ p
 unfolding watt_choice
 watt_still p h = rw h
 

@@ -8,9 +8,9 @@ use Rattle.victim.proofs.clock.choose.Goals as goal
 pub any_unpinned-free-requires : goal.any_unpinned-free-requires
 any_unpinned-free-requires c = (ranges _ (told _ c.requires).settings).frames.1
 
-pub returns-in-At : goal.returns-in-At
-returns-in-At c =
-    way_swept (pool_in c.args.h c.args.table.now c.args.access.now c.args.write.now) _ _ (sym c.any_unpinned-free.ensures ∙ c.in-At.is) c.sweep.ensures
+pub returns-in-Some : goal.returns-in-Some
+returns-in-Some c =
+    way_swept (pool_in c.args.h c.args.table.now c.args.access.now c.args.write.now) _ _ (sym c.any_unpinned-free.ensures ∙ c.in-Some.is) c.sweep.ensures
 
-pub returns-in-Nothing : goal.returns-in-Nothing
-returns-in-Nothing c = way_pinned _ _ (sym c.any_unpinned-free.ensures ∙ c.in-Nothing.is) refl
+pub returns-in-None : goal.returns-in-None
+returns-in-None c = way_pinned _ _ (sym c.any_unpinned-free.ensures ∙ c.in-None.is) refl
