@@ -13,7 +13,7 @@ use lines::{put_byte, put_bytes, put_next, read_full, say_text};
 use pool::Pool;
 use std::io::{Read, Result};
 use tally::Tally;
-use word::Order;
+use word::{Order, Word};
 
 // The most bytes of an image or a trace.
 const INPUT_ROOM: usize = 60000;
@@ -45,7 +45,7 @@ struct Case {
 fn number(head: &[u8; 64], i: usize) -> u32
     requires { i < 16 }
 {
-    word::get32(head, 4 * i, Order::High)
+    u32::get(head, 4 * i, Order::High)
 }
 
 fn tally_in(head: &[u8; 64]) -> Tally {

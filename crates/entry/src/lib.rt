@@ -8,7 +8,7 @@ ghost use Rattle.search.specs.Search.{one_if};
 ghost use Rattle.entry.specs.Entry.{entry_length, words_at, zero_in, entry_fits, frame_in, word_bytes, field_bytes};
 
 use pool::Frame;
-use word::Order;
+use word::{Order, Word};
 
 pub const ENTRY_LENGTH: usize = 68;
 
@@ -22,7 +22,7 @@ pub fn zero_right(bytes: &[u8], at: usize, order: Order) -> bool
     requires { at + entry_length ≤ length bytes.now }
     ensures { result ≡ eqb (zero_in order bytes.now at) 0 }
 {
-    word::get16(bytes, at + 18, order) == 0
+    u16::get(bytes, at + 18, order) == 0
 }
 
 // Whether a frame can hold the numbers of the entry at `at`.
@@ -30,11 +30,11 @@ pub fn fits(bytes: &[u8], at: usize, order: Order) -> bool
     requires { at + entry_length ≤ length bytes.now }
     ensures { result ≡ entry_fits order bytes.now at }
 {
-    let pins = word::get16(bytes, at + 8, order);
-    let count = word::get16(bytes, at + 10, order);
-    let dirty = word::get16(bytes, at + 12, order);
-    let accesses = word::get16(bytes, at + 14, order);
-    let writes = word::get16(bytes, at + 16, order);
+    let pins = u16::get(bytes, at + 8, order);
+    let count = u16::get(bytes, at + 10, order);
+    let dirty = u16::get(bytes, at + 12, order);
+    let accesses = u16::get(bytes, at + 14, order);
+    let writes = u16::get(bytes, at + 16, order);
     (dirty <= 1) & ((pins <= 255) & ((count <= 255) & ((accesses <= 255) & (writes <= 255))))
 }
 
@@ -53,13 +53,13 @@ pub fn frame(bytes: &[u8], at: usize, order: Order) -> Frame
 {
     Frame {
         used: true,
-        page: word::get32(bytes, at, order),
-        dirty: word::get16(bytes, at + 12, order) == 1,
-        pins: narrow(word::get16(bytes, at + 8, order)),
-        count: narrow(word::get16(bytes, at + 10, order)),
-        last: word::get32(bytes, at + 4, order),
-        accesses: narrow(word::get16(bytes, at + 14, order)),
-        writes: narrow(word::get16(bytes, at + 16, order)),
+        page: u32::get(bytes, at, order),
+        dirty: u16::get(bytes, at + 12, order) == 1,
+        pins: narrow(u16::get(bytes, at + 8, order)),
+        count: narrow(u16::get(bytes, at + 10, order)),
+        last: u32::get(bytes, at + 4, order),
+        accesses: narrow(u16::get(bytes, at + 14, order)),
+        writes: narrow(u16::get(bytes, at + 16, order)),
     }
 }
 
@@ -70,7 +70,7 @@ pub fn read_log(bytes: &[u8], at: usize, order: Order, log: &mut [u32], to: usiz
 {
     let mut j: usize = 0;
     while j < n {
-        log[to + j] = word::get32(bytes, at + 4 * j, order);
+        log[to + j] = u32::get(bytes, at + 4 * j, order);
         j += 1;
     }
 }
@@ -80,10 +80,10 @@ fn put_numbers(out: &mut [u8], at: usize, order: Order, fr: Frame)
     requires { at + 12 ≤ length out.old }
     ensures { out.new ≡ sets out.old at (bytes_of order 4 fr.page ++ bytes_of order 4 fr.last ++ bytes_of order 2 fr.pins ++ bytes_of order 2 fr.count) }
 {
-    word::put32(out, at, order, fr.page);
-    word::put32(out, at + 4, order, fr.last);
-    word::put16(out, at + 8, order, fr.pins as u16);
-    word::put16(out, at + 10, order, fr.count as u16);
+    u32::put(out, at, order, fr.page);
+    u32::put(out, at + 4, order, fr.last);
+    u16::put(out, at + 8, order, fr.pins as u16);
+    u16::put(out, at + 10, order, fr.count as u16);
 }
 
 // Whether it is dirty, how long its logs are, and the zero, from `at` on.
@@ -91,10 +91,10 @@ fn put_lengths(out: &mut [u8], at: usize, order: Order, fr: Frame)
     requires { at + 8 ≤ length out.old }
     ensures { out.new ≡ sets out.old at (bytes_of order 2 (one_if fr.dirty) ++ bytes_of order 2 fr.accesses ++ bytes_of order 2 fr.writes ++ bytes_of order 2 0) }
 {
-    word::put16(out, at, order, search::one_if(fr.dirty) as u16);
-    word::put16(out, at + 2, order, fr.accesses as u16);
-    word::put16(out, at + 4, order, fr.writes as u16);
-    word::put16(out, at + 6, order, 0);
+    u16::put(out, at, order, search::one_if(fr.dirty) as u16);
+    u16::put(out, at + 2, order, fr.accesses as u16);
+    u16::put(out, at + 4, order, fr.writes as u16);
+    u16::put(out, at + 6, order, 0);
 }
 
 // What an entry has before its logs is stored from `at` on.
@@ -113,7 +113,7 @@ pub fn put_log(out: &mut [u8], at: usize, order: Order, log: &[u32], start: usiz
 {
     let mut j: usize = 0;
     while j < n {
-        word::put32(out, at + 4 * j, order, log[start + j]);
+        u32::put(out, at + 4 * j, order, log[start + j]);
         j += 1;
     }
 }

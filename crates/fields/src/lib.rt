@@ -8,7 +8,7 @@ ghost use Rattle.trace.specs.Encode.{mark_bytes, front_bytes, header_bytes, reco
 
 use settings::Settings;
 use trace::{HEADER_LENGTH, RECORD_LENGTH};
-use word::Order;
+use word::{Order, Word};
 
 // The four bytes of m are stored at the front.
 fn copy4(out: &mut [u8], m: &[u8; 4])
@@ -37,12 +37,12 @@ fn put_counts(out: &mut [u8], order: Order, n: u32, writes: u32)
     ensures { out.new ≡ sets out.old 0 (front_bytes order n writes) }
 {
     put_mark(out, order);
-    word::put16(out, 4, order, trace::EDITION);
-    word::put16(out, 6, order, 0);
-    word::put32(out, 8, order, n);
-    word::put32(out, 12, order, HEADER_LENGTH as u32);
-    word::put32(out, 16, order, writes);
-    word::put32(
+    u16::put(out, 4, order, trace::EDITION);
+    u16::put(out, 6, order, 0);
+    u32::put(out, 8, order, n);
+    u32::put(out, 12, order, HEADER_LENGTH as u32);
+    u32::put(out, 16, order, writes);
+    u32::put(
         out,
         20,
         order,
@@ -56,14 +56,14 @@ pub fn put_header(out: &mut [u8], order: Order, settings: Settings, n: u32, writ
 {
     put_counts(out, order, n, writes);
     settings::put(out, trace::SETTINGS_PLACE, order, settings);
-    word::put32(out, 44, order, 0);
+    u32::put(out, 44, order, 0);
 }
 
 pub fn put_record(out: &mut [u8], at: usize, order: Order, page: u32, kind: u16)
     requires { at + record_length ≤ length out.old }
     ensures { out.new ≡ sets out.old at (record_bytes order page kind) }
 {
-    word::put32(out, at, order, page);
-    word::put16(out, at + 4, order, kind);
-    word::put16(out, at + 6, order, 0);
+    u32::put(out, at, order, page);
+    u16::put(out, at + 4, order, kind);
+    u16::put(out, at + 6, order, 0);
 }

@@ -9,7 +9,7 @@ ghost use Rattle.host.specs.Counts.{words_of, CountsInto};
 ghost use Rattle.host.specs.Curve.{CurveBytesInto};
 
 use trace::{Checked, Summary};
-use word::Order;
+use word::{Order, Word};
 
 // The bytes of the counts, 4 for each.
 pub const COUNTS_BYTES: usize = 4 * tally::COUNTS;
@@ -43,7 +43,7 @@ fn put_numbers(out: &mut [u8], order: Order, l: &[u32])
 {
     let mut i: usize = 0;
     while i < l.len() {
-        word::put32(out, 4 * i, order, l[i]);
+        u32::put(out, 4 * i, order, l[i]);
         i += 1;
     }
 }

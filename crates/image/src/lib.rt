@@ -15,7 +15,7 @@ use entry::ENTRY_LENGTH;
 use pool::{Frame, Opened, Pool};
 use refusal::demanded;
 use trace::Mark;
-use word::Order;
+use word::{Order, Word};
 
 pub const EDITION: u16 = 1;
 
@@ -36,11 +36,11 @@ fn layout_refusal(bytes: &[u8], order: Order) -> u32
     requires { image_header ≤ length bytes.now }
     ensures { result ≡ layout_refusal order bytes.now }
 {
-    let edition = word::get16(bytes, 4, order);
-    let used = word::get32(bytes, 8, order) as usize;
-    let offset = word::get32(bytes, 12, order);
-    let entry = word::get32(bytes, 16, order);
-    let long = word::get32(bytes, 20, order);
+    let edition = u16::get(bytes, 4, order);
+    let used = u32::get(bytes, 8, order) as usize;
+    let offset = u32::get(bytes, 12, order);
+    let entry = u32::get(bytes, 16, order);
+    let long = u32::get(bytes, 20, order);
     let size = HEADER_LENGTH + ENTRY_LENGTH * used;
     let lengths = (offset as usize == HEADER_LENGTH)
         & ((entry as usize == ENTRY_LENGTH) & ((long as usize == size) & (bytes.len() == size)));
@@ -56,9 +56,9 @@ fn header_zeros(bytes: &[u8], order: Order) -> bool
     requires { image_header ≤ length bytes.now }
     ensures { result ≡ header_zeros order bytes.now }
 {
-    (word::get16(bytes, 6, order) == 0)
-        & ((word::get32(bytes, 44, order) == 0)
-            & ((word::get16(bytes, 54, order) == 0) & (word::get32(bytes, 60, order) == 0)))
+    (u16::get(bytes, 6, order) == 0)
+        & ((u32::get(bytes, 44, order) == 0)
+            & ((u16::get(bytes, 54, order) == 0) & (u32::get(bytes, 60, order) == 0)))
 }
 
 // One pass over the first n entries.
@@ -86,7 +86,7 @@ fn content_refusal(bytes: &[u8], order: Order) -> u32
     requires { length bytes.now ≡ image_length (used_at order bytes.now) }
     ensures { result ≡ content_refusal order bytes.now }
 {
-    let used = word::get32(bytes, 8, order) as usize;
+    let used = u32::get(bytes, 8, order) as usize;
     let zeros = header_zeros(bytes, order);
     let found = survey_of(bytes, order, used);
     demanded(
@@ -164,9 +164,9 @@ fn pool_to(bytes: &[u8], order: Order, used: usize) -> Pool
     let settings = settings::read(bytes, trace::SETTINGS_PLACE, order);
     Pool {
         settings: settings,
-        k: word::get32(bytes, 48, order),
-        hand: word::get16(bytes, 52, order),
-        sampler: word::get32(bytes, 56, order),
+        k: u32::get(bytes, 48, order),
+        hand: u16::get(bytes, 52, order),
+        sampler: u32::get(bytes, 56, order),
         frames: frames,
         access: access,
         write: write,
@@ -194,7 +194,7 @@ pub fn held(bytes: &[u8]) -> Opened
         return refused(r);
     }
     let order = order_of(bytes);
-    let used = word::get32(bytes, 8, order) as usize;
+    let used = u32::get(bytes, 8, order) as usize;
     let whole = pool_to(bytes, order, used);
     Opened {
         refusal: 0,
@@ -238,12 +238,12 @@ fn put_front(out: &mut [u8], order: Order, used: u32)
     ensures { out.new ≡ sets out.old 0 (front_bytes order used) }
 {
     fields::put_mark(out, order);
-    word::put16(out, 4, order, EDITION);
-    word::put16(out, 6, order, 0);
-    word::put32(out, 8, order, used);
-    word::put32(out, 12, order, HEADER_LENGTH as u32);
-    word::put32(out, 16, order, ENTRY_LENGTH as u32);
-    word::put32(
+    u16::put(out, 4, order, EDITION);
+    u16::put(out, 6, order, 0);
+    u32::put(out, 8, order, used);
+    u32::put(out, 12, order, HEADER_LENGTH as u32);
+    u32::put(out, 16, order, ENTRY_LENGTH as u32);
+    u32::put(
         out,
         20,
         order,
@@ -256,12 +256,12 @@ fn put_back(out: &mut [u8], order: Order, k: u32, hand: u16, sampler: u32)
     requires { image_header ≤ length out.old }
     ensures { out.new ≡ sets out.old 44 (back_bytes order k hand sampler) }
 {
-    word::put32(out, 44, order, 0);
-    word::put32(out, 48, order, k);
-    word::put16(out, 52, order, hand);
-    word::put16(out, 54, order, 0);
-    word::put32(out, 56, order, sampler);
-    word::put32(out, 60, order, 0);
+    u32::put(out, 44, order, 0);
+    u32::put(out, 48, order, k);
+    u16::put(out, 52, order, hand);
+    u16::put(out, 54, order, 0);
+    u32::put(out, 56, order, sampler);
+    u32::put(out, 60, order, 0);
 }
 
 // The header, in three runs.

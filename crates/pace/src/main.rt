@@ -5,7 +5,7 @@
 ghost use Rattle.std.specs.Prelude.{◌≤◌, length};
 
 use std::io::Result;
-use word::Order;
+use word::{Order, Word};
 
 // The most bytes of an image.
 const INPUT_ROOM: usize = 65536;
@@ -16,7 +16,7 @@ const TURNS: u32 = 100000;
 fn turn(bytes: &mut [u8], out: &mut [u8], i: u32) -> u32
     requires { 64 ≤ length bytes.old }
 {
-    word::put32(bytes, 56, Order::Low, i);
+    u32::put(bytes, 56, Order::Low, i);
     let opened = image::read(bytes);
     let refusal = image::write(opened.pool, Order::Low, out);
     opened.refusal.wrapping_add(refusal)

@@ -7,7 +7,7 @@ use lines::read_full;
 use pool::Pool;
 use std::io::{Read, Result};
 use tally::Tally;
-use word::Order;
+use word::{Order, Word};
 
 // The most bytes of a trace.
 const INPUT_ROOM: usize = 65536;
@@ -80,7 +80,7 @@ fn next_item(
     if read_full(from, &mut head)? < 4 {
         return Ok(stopped(before));
     }
-    let size = word::get32(&head, 0, Order::High) as usize;
+    let size = u32::get(&head, 0, Order::High) as usize;
     if space.len() < size {
         return Ok(stopped(before));
     }

@@ -5,7 +5,7 @@ ghost use Rattle.std.specs.Prelude.{◌≡◌, ◌+◌, ◌≤◌, length, take}
 ghost use Rattle.std.proofs.lemmas.List.Edits.{sets};
 ghost use Rattle.settings.specs.Settings.{between, the_fields, in_range, same_settings, settings_length, field_bytes, settings_bytes, settings_at, one_frame};
 
-use word::Order;
+use word::{Order, Word};
 
 #[derive(Clone, Copy)]
 pub struct Settings {
@@ -74,14 +74,14 @@ pub fn read(bytes: &[u8], at: usize, order: Order) -> Settings
     ensures { result ≡ settings_at order at bytes.now }
 {
     Settings {
-        rule: word::get16(bytes, at, order),
-        frames: word::get16(bytes, at + 2, order),
-        batch: word::get16(bytes, at + 4, order),
-        cap: word::get16(bytes, at + 6, order),
-        sample: word::get16(bytes, at + 8, order),
-        weight: word::get16(bytes, at + 10, order),
-        span: word::get32(bytes, at + 12, order),
-        seed: word::get32(bytes, at + 16, order),
+        rule: u16::get(bytes, at, order),
+        frames: u16::get(bytes, at + 2, order),
+        batch: u16::get(bytes, at + 4, order),
+        cap: u16::get(bytes, at + 6, order),
+        sample: u16::get(bytes, at + 8, order),
+        weight: u16::get(bytes, at + 10, order),
+        span: u32::get(bytes, at + 12, order),
+        seed: u32::get(bytes, at + 16, order),
     }
 }
 
@@ -90,12 +90,12 @@ fn put_shorts(out: &mut [u8], at: usize, order: Order, settings: Settings)
     requires { at + settings_length ≤ length out.old }
     ensures { out.new ≡ sets out.old at (field_bytes order (take 6 the_fields) settings) }
 {
-    word::put16(out, at, order, settings.rule);
-    word::put16(out, at + 2, order, settings.frames);
-    word::put16(out, at + 4, order, settings.batch);
-    word::put16(out, at + 6, order, settings.cap);
-    word::put16(out, at + 8, order, settings.sample);
-    word::put16(out, at + 10, order, settings.weight);
+    u16::put(out, at, order, settings.rule);
+    u16::put(out, at + 2, order, settings.frames);
+    u16::put(out, at + 4, order, settings.batch);
+    u16::put(out, at + 6, order, settings.cap);
+    u16::put(out, at + 8, order, settings.sample);
+    u16::put(out, at + 10, order, settings.weight);
 }
 
 // The settings are stored from `at` on.
@@ -104,6 +104,6 @@ pub fn put(out: &mut [u8], at: usize, order: Order, settings: Settings)
     ensures { out.new ≡ sets out.old at (settings_bytes order settings) }
 {
     put_shorts(out, at, order, settings);
-    word::put32(out, at + 12, order, settings.span);
-    word::put32(out, at + 16, order, settings.seed);
+    u32::put(out, at + 12, order, settings.span);
+    u32::put(out, at + 16, order, settings.seed);
 }

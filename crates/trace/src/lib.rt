@@ -9,7 +9,7 @@ ghost use Rattle.trace.specs.Check.{layout_refusal, content_refusal, refusal_in,
 
 use refusal::demanded;
 use settings::Settings;
-use word::Order;
+use word::{Order, Word};
 
 // What the first four bytes say.
 #[derive(Clone, Copy)]
@@ -95,10 +95,10 @@ fn layout_refusal(s: &[u8], order: Order) -> u32
     requires { header_length ≤ length s.now }
     ensures { result ≡ layout_refusal order s.now }
 {
-    let edition = word::get16(s, 4, order);
-    let n = word::get32(s, 8, order) as usize;
-    let offset = word::get32(s, 12, order);
-    let long = word::get32(s, 20, order);
+    let edition = u16::get(s, 4, order);
+    let n = u32::get(s, 8, order) as usize;
+    let offset = u32::get(s, 12, order);
+    let long = u32::get(s, 20, order);
     let size = HEADER_LENGTH + RECORD_LENGTH * n;
     let lengths = (offset as usize == HEADER_LENGTH)
         & ((long as usize == size) & (s.len() == size));
@@ -125,9 +125,9 @@ fn survey_of(s: &[u8], order: Order, n: usize) -> Survey
     let mut i: usize = 0;
     while i < n {
         let at = HEADER_LENGTH + RECORD_LENGTH * i;
-        let kind = word::get16(s, at + 4, order);
+        let kind = u16::get(s, at + 4, order);
         known = known & (kind <= 3);
-        zeros = zeros & (word::get16(s, at + 6, order) == 0);
+        zeros = zeros & (u16::get(s, at + 6, order) == 0);
         writes = writes + count_write(kind);
         i += 1;
     }
@@ -143,10 +143,10 @@ fn content_refusal(s: &[u8], order: Order) -> u32
     requires { (count_at order s.now ≤ record_limit) × (length s.now ≡ file_length (count_at order s.now)) }
     ensures { result ≡ content_refusal order s.now }
 {
-    let n = word::get32(s, 8, order);
-    let writes = word::get32(s, 16, order);
-    let first_zero = word::get16(s, 6, order) == 0;
-    let last_zero = word::get32(s, 44, order) == 0;
+    let n = u32::get(s, 8, order);
+    let writes = u32::get(s, 16, order);
+    let first_zero = u16::get(s, 6, order) == 0;
+    let last_zero = u32::get(s, 44, order) == 0;
     let found = survey_of(s, order, n as usize);
     let zeros = first_zero & (last_zero & found.zeros);
     let ranges = demanded(
@@ -177,7 +177,7 @@ fn checked_in(s: &[u8], order: Order) -> Checked
         Checked::Accepted(Summary {
             settings: t,
             order: order,
-            count: word::get32(s, 8, order),
+            count: u32::get(s, 8, order),
         })
     } else {
         Checked::Refused(r)
@@ -207,8 +207,8 @@ pub fn record_at(bytes: &[u8], summary: Summary, i: usize) -> Record
     let order = summary.order;
     let at = HEADER_LENGTH + RECORD_LENGTH * i;
     Record {
-        page: word::get32(bytes, at, order),
-        kind: word::get16(bytes, at + 4, order),
+        page: u32::get(bytes, at, order),
+        kind: u16::get(bytes, at + 4, order),
     }
 }
 
@@ -218,7 +218,7 @@ pub fn writes(bytes: &[u8], summary: Summary) -> u32
     ensures { result ≡ writes_in (trace_of bytes.now).kinds }
 {
     let order = summary.order;
-    word::get32(bytes, 16, order)
+    u32::get(bytes, 16, order)
 }
 
 // The pages and kinds of an accepted trace, at the front of two lent lists.

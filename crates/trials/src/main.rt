@@ -8,7 +8,7 @@ use lines::{read_full, say, say_number, say_order};
 use settings::Settings;
 use std::io::{Read, Result};
 use trace::Checked;
-use word::Order;
+use word::{Order, Word};
 
 // The most cases of a bundle.
 const TURNS: u32 = 1000;
@@ -133,7 +133,7 @@ fn take_pages(body: &[u8], at: usize, n: usize, pages: &mut [u32])
     requires { (at + 4 * n ≤ length body.now) × (n ≤ length pages.old) }
 {
     for i in 0..n {
-        pages[i] = word::get32(body, at + 4 * i, Order::High);
+        pages[i] = u32::get(body, at + 4 * i, Order::High);
     }
 }
 
@@ -142,7 +142,7 @@ fn take_kinds(body: &[u8], at: usize, n: usize, kinds: &mut [u16])
     requires { (at + 2 * n ≤ length body.now) × (n ≤ length kinds.old) }
 {
     for i in 0..n {
-        kinds[i] = word::get16(body, at + 2 * i, Order::High);
+        kinds[i] = u16::get(body, at + 2 * i, Order::High);
     }
 }
 
@@ -155,7 +155,7 @@ fn write_lists(body: &[u8], pages: &[u32], kinds: &[u16], out: &mut [u8]) -> u32
     requires { 32 ≤ length body.now }
 {
     let settings = settings::read(body, 0, Order::High);
-    let order = order_of(word::get16(body, 20, Order::High));
+    let order = order_of(u16::get(body, 20, Order::High));
     scribe::write(settings, order, pages, kinds, out)
 }
 
@@ -180,8 +180,8 @@ fn try_write(out: &impl Print, body: &[u8], room: usize) -> Result<()> {
     if body.len() < 32 {
         return Ok(());
     }
-    let p = word::get32(body, 24, Order::High) as usize;
-    let k = word::get32(body, 28, Order::High) as usize;
+    let p = u32::get(body, 24, Order::High) as usize;
+    let k = u32::get(body, 28, Order::High) as usize;
     if p <= 8001 && k <= 8001 && 32 + 4 * p + 2 * k <= body.len() && room <= 64064 {
         return try_lists(out, body, p, k, room);
     }
@@ -205,10 +205,10 @@ fn next_case(out: &impl Print, from: &mut impl Read, body: &mut [u8]) -> Result<
     if read_full(from, &mut head)? < 16 {
         return Ok(false);
     }
-    let op = word::get32(&head, 0, Order::High);
-    let size = word::get32(&head, 4, Order::High) as usize;
-    let room = word::get32(&head, 8, Order::High) as usize;
-    let other_room = word::get32(&head, 12, Order::High) as usize;
+    let op = u32::get(&head, 0, Order::High);
+    let size = u32::get(&head, 4, Order::High) as usize;
+    let room = u32::get(&head, 8, Order::High) as usize;
+    let other_room = u32::get(&head, 12, Order::High) as usize;
     if body.len() < size {
         return Ok(false);
     }

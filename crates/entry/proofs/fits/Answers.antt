@@ -3,4 +3,4 @@ use Rattle.entry.proofs.fits.Goals as goal
 
 pub returns : goal.returns
 unfolding entry_fits
-returns c = rw (c.get16-writes.ensures, c.get16-accesses.ensures, c.get16-dirty.ensures, c.get16-count.ensures, c.get16-pins.ensures)
+returns c = rw (c.get-writes.ensures, c.get-accesses.ensures, c.get-dirty.ensures, c.get-count.ensures, c.get-pins.ensures)

@@ -8,5 +8,5 @@ loop-j-preserved c =
     let a = c.args in (
       omega arith,
       simp length-set c.loop-j.invariant.1,
-      log_more a.order a.bytes.now a.at a.to c.loop-j.j _ a.log.now c.loop-j.log c.loop-j.invariant.2 c.get32.ensures,
+      log_more a.order a.bytes.now a.at a.to c.loop-j.j _ a.log.now c.loop-j.log c.loop-j.invariant.2 c.get.ensures,
     )

@@ -7,4 +7,4 @@ returns c =
     let c2 = c3 in
     let c1 = c2 in
     let a = c1.args in
-    header_stores a.order a.settings a.n a.writes a.out.now _ _ _ c1.put_counts.ensures c2.put.ensures c3.put32.ensures
+    header_stores a.order a.settings a.n a.writes a.out.now _ _ _ c1.put_counts.ensures c2.put.ensures c3.put-2.ensures

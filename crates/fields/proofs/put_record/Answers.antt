@@ -9,5 +9,5 @@ returns c =
     let c3 = c in
     let c2 = c3 in
     let c1 = c2 in
-    rw (c3.put16-2.ensures, c2.put16.ensures, c1.put32.ensures)
+    rw (c3.put-3.ensures, c2.put-2.ensures, c1.put.ensures)
     (simp (sets_append, length-append, length_bytes))

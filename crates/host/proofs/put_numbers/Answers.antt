@@ -9,7 +9,7 @@ use Rattle.host.proofs.put_numbers.Goals as goal
 
 pub loop-i-preserved : goal.loop-i-preserved
 loop-i-preserved c =
-    let p = c.put32 in
+    let p = c.put in
     let a = c.args in
     let n = a.l.now in
     let below : c.loop-i.i < length n = search rules in (

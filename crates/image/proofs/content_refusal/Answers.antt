@@ -10,5 +10,5 @@ returns c =
       c.survey_of-found.ensures.0,
       c.survey_of-found.ensures.1,
       c.header_zeros-zeros.ensures,
-      c.get32-used.ensures,
+      c.get-used.ensures,
     )

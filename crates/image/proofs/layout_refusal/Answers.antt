@@ -7,9 +7,9 @@ returns c =
     rw (
       c.demanded-2.ensures,
       c.demanded.ensures,
-      c.get32-long.ensures,
-      c.get32-entry.ensures,
-      c.get32-offset.ensures,
-      c.get32-used.ensures,
-      c.get16-edition.ensures,
+      c.get-long.ensures,
+      c.get-entry.ensures,
+      c.get-offset.ensures,
+      c.get-used.ensures,
+      c.get-edition.ensures,
     )

@@ -37,4 +37,4 @@ unfolding pool_to fresh_pool
 returns c =
     let v = c.loop-i.invariant in
     let e : c.loop-i.i ≡ c.args.used = omega arith in
-    rw (c.get32-2.ensures, c.get16.ensures, c.get32.ensures, c.read-settings.ensures, v.4, v.5, v.6, e, c.empty_frame-empty.ensures)
+    rw (c.get-3.ensures, c.get-2.ensures, c.get.ensures, c.read-settings.ensures, v.4, v.5, v.6, e, c.empty_frame-empty.ensures)

@@ -4,4 +4,4 @@ use Rattle.settings.proofs.put.Goals as goal
 pub returns : goal.returns
 returns c =
     let a = c.args in
-    settings_stored a.order a.settings a.at a.out.now _ _ _ c.put_shorts.ensures c.put32.ensures c.put32-2.ensures
+    settings_stored a.order a.settings a.at a.out.now _ _ _ c.put_shorts.ensures c.put.ensures c.put-2.ensures

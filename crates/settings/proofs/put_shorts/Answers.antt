@@ -4,5 +4,5 @@ use Rattle.settings.proofs.put_shorts.Goals as goal
 pub returns : goal.returns
 returns c =
     let a = c.args in
-    shorts_stored a.order a.settings a.at a.out.now _ _ _ _ _ _ c.put16.ensures c.put16-2.ensures c.put16-3.ensures
-    c.put16-4.ensures c.put16-5.ensures c.put16-6.ensures
+    shorts_stored a.order a.settings a.at a.out.now _ _ _ _ _ _ c.put.ensures c.put-2.ensures c.put-3.ensures
+    c.put-4.ensures c.put-5.ensures c.put-6.ensures

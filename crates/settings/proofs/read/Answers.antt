@@ -6,13 +6,13 @@ pub returns : goal.returns
 unfolding settings_at
 returns c =
     rw (
-      c.get32-2.ensures,
-      c.get32.ensures,
-      c.get16-6.ensures,
-      c.get16-5.ensures,
-      c.get16-4.ensures,
-      c.get16-3.ensures,
-      c.get16-2.ensures,
-      c.get16.ensures,
+      c.get-8.ensures,
+      c.get-7.ensures,
+      c.get-6.ensures,
+      c.get-5.ensures,
+      c.get-4.ensures,
+      c.get-3.ensures,
+      c.get-2.ensures,
+      c.get.ensures,
     )
     (simp add_assoc)

@@ -13,8 +13,8 @@ returns c =
       c.survey_of-found.ensures.0,
       c.survey_of-found.ensures.1,
       c.survey_of-found.ensures.2,
-      c.get32-last_zero.ensures,
-      c.get16-first_zero.ensures,
-      c.get32-writes.ensures,
-      c.get32-n.ensures,
+      c.get-last_zero.ensures,
+      c.get-first_zero.ensures,
+      c.get-writes.ensures,
+      c.get-n.ensures,
     )

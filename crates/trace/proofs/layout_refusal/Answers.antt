@@ -8,8 +8,8 @@ returns c =
       c.demanded.ensures,
       c.demanded-few.ensures,
       c.demanded-lengths_right.ensures,
-      c.get32-long.ensures,
-      c.get32-offset.ensures,
-      c.get32-n.ensures,
-      c.get16-edition.ensures,
+      c.get-long.ensures,
+      c.get-offset.ensures,
+      c.get-n.ensures,
+      c.get-edition.ensures,
     )

@@ -9,8 +9,8 @@ loop-i-preserved c =
     let k = z in
     let l = k in (
       omega arith,
-      rw (add-one, known_snoc, l.loop-i.invariant.1, k.get16-kind.ensures),
-      rw (add-one, zero_snoc, l.loop-i.invariant.2, z.get16.ensures),
-      rw (add-one, writes_snoc, l.loop-i.invariant.3, c.count_write-writes.ensures.0, k.get16-kind.ensures),
+      rw (add-one, known_snoc, l.loop-i.invariant.1, k.get-kind.ensures),
+      rw (add-one, zero_snoc, l.loop-i.invariant.2, z.get.ensures),
+      rw (add-one, writes_snoc, l.loop-i.invariant.3, c.count_write-writes.ensures.0, k.get-kind.ensures),
       omega arith,
     )

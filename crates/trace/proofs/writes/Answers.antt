@@ -3,8 +3,8 @@ use native.Mathlib.Omega.{arith}
 use Rattle.trace.proofs.Accept.{header_within, writes_are}
 use Rattle.trace.proofs.writes.Goals as goal
 
-pub get32-requires : goal.get32-requires
-get32-requires c =
+pub get-requires : goal.get-requires
+get-requires c =
     let b = c in
     let h = header_within b.args.bytes.now b.args.summary b.requires in
     omega arith
@@ -12,4 +12,4 @@ get32-requires c =
 pub returns : goal.returns
 returns c =
     let b = c in
-    c.get32.ensures ∙ writes_are b.args.bytes.now b.args.summary b.requires
+    c.get.ensures ∙ writes_are b.args.bytes.now b.args.summary b.requires
