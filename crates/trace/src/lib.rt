@@ -199,7 +199,12 @@ fn read_records(bytes: &[u8], summary: Summary, pages: &mut [u32], kinds: &mut [
     }
 }
 
-fn read_accepted(bytes: &[u8], summary: Summary, pages: &mut [u32], kinds: &mut [u16]) -> Result<Summary, Refusal>
+fn read_accepted(
+    bytes: &[u8],
+    summary: Summary,
+    pages: &mut [u32],
+    kinds: &mut [u16],
+) -> Result<Summary, Refusal>
     requires { check_of bytes.now ≡ Accepted summary }
     ensures { ReadInto bytes.now pages.old kinds.old (checked_by result) pages.new kinds.new }
 {

@@ -10,4 +10,3 @@ abbrev pub invariant-loop-i : goal.invariant-loop-i
 invariant-loop-i l = (length l.pages ≡ length l.initial.pages) × (length l.kinds ≡ length l.initial.kinds)
     × (l.pages ≡ sets l.initial.pages 0 (up_to (λ (j : ℕ). (record_in (trace_of l.bytes) j).page) l.i))
     × (l.kinds ≡ sets l.initial.kinds 0 (up_to (λ (j : ℕ). (record_in (trace_of l.bytes) j).kind) l.i))
-
