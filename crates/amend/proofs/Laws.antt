@@ -14,8 +14,8 @@ use Rattle.refusal.proofs.Laws.{or_first, neither, unstored}
 use Rattle.trace.specs.declared.Summary.{Summary}
 use Rattle.trace.specs.Layout.{Trace, trace_from, file_length, record_limit}
 use Rattle.trace.specs.Encode.{encode}
-use Rattle.trace.specs.declared.Checked.TheVariants.{Accepted}
-use Rattle.trace.specs.declared.Checked.TheVariants.{Refused as Checked-as-Refused}
+use Rattle.trace.specs.Check.Checked.{Accepted}
+use Rattle.trace.specs.Check.Checked.{Refused as Checked-as-Refused}
 use Rattle.trace.specs.Check.{summary_of, refusal_of, trace_of, check_of}
 use Rattle.trace.proofs.Accept.{accepted, refused_is}
 use Rattle.trace.proofs.Whole.{proper, length_trace, decode_whole}

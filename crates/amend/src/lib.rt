@@ -7,12 +7,13 @@ ghost use Rattle.wish.specs.Wish.{wished_settings};
 ghost use Rattle.text.specs.Text.{lines_in, first_bad, pages_in, kinds_in};
 ghost use Rattle.scribe.specs.Write.{WrittenTo, ReadsBack};
 ghost use Rattle.trace.specs.Check.{check_of};
+ghost use Rattle.trace.specs.Check.Checked.{Accepted};
 ghost use Rattle.amend.specs.Amend.{SetInto, SetsBack, ImportedInto, ImportsBack, not_counted, sheet_of, sheet_with};
 ghost use Rattle.amend.specs.Quote.{nearer_of, next_size, quote_tally, quote_line};
 
 use settings::Settings;
 use tally::Tally;
-use trace::{Checked, RECORD_LIMIT, Summary};
+use trace::{RECORD_LIMIT, Summary};
 use wish::Wish;
 use word::Order;
 
@@ -79,8 +80,8 @@ pub fn set(bytes: &[u8], wish: Wish, out: &mut [u8]) -> u32
     let mut kinds = [0u16; RECORD_LIMIT];
     let c = trace::read(bytes, &mut pages, &mut kinds);
     match c {
-        Checked::Refused(r) => r,
-        Checked::Accepted(summary) => set_accepted(summary, wish, &pages, &kinds, out),
+        Err(r) => u32::from(r),
+        Ok(summary) => set_accepted(summary, wish, &pages, &kinds, out),
     }
 }
 
@@ -139,7 +140,7 @@ fn not_counted(refusal: u32) -> Counted
 }
 
 fn counts_accepted(bytes: &[u8], summary: Summary) -> Counted
-    requires { check_of bytes.now ≡ Checked.Accepted summary }
+    requires { check_of bytes.now ≡ Accepted summary }
     ensures { result ≡ sheet_of bytes.now }
 {
     let settings = summary.settings;
@@ -158,8 +159,8 @@ pub fn counts_of(bytes: &[u8]) -> Counted
 {
     let c = trace::check(bytes);
     match c {
-        Checked::Refused(r) => not_counted(r),
-        Checked::Accepted(summary) => counts_accepted(bytes, summary),
+        Err(r) => not_counted(u32::from(r)),
+        Ok(summary) => counts_accepted(bytes, summary),
     }
 }
 

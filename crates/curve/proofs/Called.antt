@@ -11,7 +11,7 @@ use borrow.Author.Tests.{leb-true}
 use Rattle.refusal.specs.Refusals.{demand, no_room, has_pins}
 use Rattle.refusal.proofs.Laws.{met, or_first, neither, unstored}
 use Rattle.trace.specs.declared.Summary.{Summary}
-use Rattle.trace.specs.declared.Checked.TheVariants.{Accepted, Refused}
+use Rattle.trace.specs.Check.Checked.{Accepted, Refused}
 use Rattle.trace.specs.Check.{refusal_of, check_of, trace_of}
 use Rattle.trace.proofs.Accept.{accepted, refused_is, counts_are}
 use Rattle.trace.proofs.Lists.{length_up_to, up_to_at}

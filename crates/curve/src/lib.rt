@@ -6,12 +6,13 @@ ghost use Rattle.std.specs.Prelude.{◌≡◌, ◌≤◌, ◌<◌, length, take}
 ghost use Rattle.std.proofs.lemmas.List.Edits.{sets};
 ghost use Rattle.search.specs.ForCode.{past};
 ghost use Rattle.trace.specs.Check.{check_of, trace_of};
+ghost use Rattle.trace.specs.Check.Checked.{Accepted};
 ghost use Rattle.distance.specs.ForCode.{place_in};
 ghost use Rattle.curve.specs.Curve.{sizes, no_pins, CurveInto};
 ghost use Rattle.curve.specs.ForCode.{Stands, moved_up, left_by, deepened, Used, Times, leavings, Sparing};
 
 use refusal::demanded;
-use trace::{Checked, Summary};
+use trace::Summary;
 
 // The pool sizes: 1 to 128 frames. As many pages stand on the stack.
 pub const SIZES: usize = 128;
@@ -89,7 +90,7 @@ fn use_page(room: &mut [u32; SIZES], depth: usize, page: u32) -> usize
 
 // One pass over the records of an accepted trace.
 fn pass(bytes: &[u8], summary: Summary) -> Passed
-    requires { check_of bytes.now ≡ Checked.Accepted summary }
+    requires { check_of bytes.now ≡ Accepted summary }
     ensures plain_value { result.plain ≡ no_pins (trace_of bytes.now).kinds }
     ensures times { Times (trace_of bytes.now).pages result.times summary.count }
 {
@@ -129,7 +130,7 @@ fn put_curve(list: &mut [u32], times: &[u32; SIZES + 1], n: u32)
 
 // The curve of an accepted trace at the front of the list: 0, or 17, or 13, with nothing stored.
 pub fn accepted_misses(bytes: &[u8], summary: Summary, list: &mut [u32]) -> u32
-    requires { check_of bytes.now ≡ Checked.Accepted summary }
+    requires { check_of bytes.now ≡ Accepted summary }
     ensures { CurveInto bytes.now list.old result list.new }
 {
     let passed = pass(bytes, summary);
@@ -150,7 +151,7 @@ pub fn misses(bytes: &[u8], list: &mut [u32]) -> u32
 {
     let c = trace::check(bytes);
     match c {
-        Checked::Refused(r) => r,
-        Checked::Accepted(summary) => accepted_misses(bytes, summary, list),
+        Err(r) => u32::from(r),
+        Ok(summary) => accepted_misses(bytes, summary, list),
     }
 }

@@ -17,8 +17,7 @@ use Rattle.settings.specs.declared.Settings.{Settings}
 use Rattle.settings.specs.Settings.{in_range, one_frame}
 use Rattle.settings.proofs.Laws.{ranges}
 use Rattle.trace.specs.Layout.{Trace, record_in}
-use Rattle.trace.specs.declared.Checked.{Checked}
-use Rattle.trace.specs.Check.{trace_of, number_of_answer, read_refusal, ReadInto}
+use Rattle.trace.specs.Check.{trace_of, number_of_answer, read_refusal, ReadInto, Checked}
 use Rattle.trace.proofs.Laws.{number_is}
 use Rattle.trace.proofs.Accept.{number_checked}
 use Rattle.trace.proofs.Reading.{read_one}

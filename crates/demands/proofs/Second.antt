@@ -13,7 +13,7 @@ use Rattle.worth.specs.declared.Fraction.{Fraction}
 use Rattle.worth.specs.Value.{less_fraction}
 use Rattle.trace.specs.Encode.{turned}
 use Rattle.trace.specs.declared.Summary.{Summary}
-use Rattle.trace.specs.declared.Checked.TheVariants.{Accepted}
+use Rattle.trace.specs.Check.Checked.{Accepted}
 use Rattle.trace.specs.Check.{refusal_of, trace_of, checked, summary_of, check_of, read_refusal, ReadInto}
 use Rattle.trace.proofs.Laws.{accepts}
 use Rattle.trace.proofs.Whole.{proper, length_trace, decode_whole}

@@ -6,8 +6,7 @@ use Rattle.refusal.specs.Refusals.{demand, out_of_range, no_frame}
 use Rattle.settings.specs.declared.Settings.{Settings}
 use Rattle.settings.specs.Settings.{in_range, one_frame}
 use Rattle.trace.specs.Layout.{Trace, record_in}
-use Rattle.trace.specs.declared.Checked.{Checked}
-use Rattle.trace.specs.Check.{refusal_of, trace_of, number_of_answer, check_of, read_refusal, ReadInto}
+use Rattle.trace.specs.Check.{refusal_of, trace_of, number_of_answer, check_of, read_refusal, ReadInto, Checked}
 use Rattle.scribe.specs.Write.{write_refusal, WrittenTo, convert_refusal, ConvertedTo}
 use Rattle.pool.specs.declared.Pool.{Pool}
 use Rattle.limit.specs.Limits.{reference_limit}

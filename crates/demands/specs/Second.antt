@@ -7,9 +7,8 @@ use Rattle.worth.specs.Value.{less_fraction}
 use Rattle.trace.specs.Layout.{Trace, trace_from, file_length, record_in}
 use Rattle.trace.specs.Encode.{encode, turned}
 use Rattle.trace.specs.declared.Summary.{Summary}
-use Rattle.trace.specs.declared.Checked.{Checked}
-use Rattle.trace.specs.declared.Checked.TheVariants.{Accepted}
-use Rattle.trace.specs.Check.{trace_of, summary_of, check_of, ReadInto}
+use Rattle.trace.specs.Check.Checked.{Accepted}
+use Rattle.trace.specs.Check.{trace_of, summary_of, check_of, ReadInto, Checked}
 use Rattle.scribe.specs.Write.{WrittenTo, ConvertedTo}
 use Rattle.word.specs.declared.Order.{Order}
 use Rattle.pool.specs.declared.Pool.{Pool}

@@ -7,7 +7,7 @@ use lib.ListN.{length}
 use Rattle.settings.specs.declared.Settings.{Settings}
 use Rattle.settings.specs.Settings.{in_range}
 use Rattle.trace.specs.declared.Summary.{Summary}
-use Rattle.trace.specs.declared.Checked.TheVariants.{Accepted}
+use Rattle.trace.specs.Check.Checked.{Accepted}
 use Rattle.trace.specs.Check.{check_of, trace_of}
 use Rattle.trace.proofs.Accept.{accepted, accepted_range, counts_are}
 use Rattle.pool.specs.declared.Opened.{Opened}

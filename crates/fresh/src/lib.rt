@@ -3,14 +3,15 @@
 
 ghost use Rattle.std.specs.Prelude.{◌≡◌};
 ghost use Rattle.trace.specs.Check.{check_of, trace_of};
+ghost use Rattle.trace.specs.Check.Checked.{Accepted};
 ghost use Rattle.fresh.specs.Fresh.{fresh_counts};
 
 use tally::Tally;
-use trace::{Checked, Summary};
+use trace::Summary;
 
 // The counts of an accepted trace from a fresh pool, which is sound: neither is checked again. With no record no pool is made.
 pub fn counts(bytes: &[u8], summary: Summary) -> Tally
-    requires { check_of bytes.now ≡ Checked.Accepted summary }
+    requires { check_of bytes.now ≡ Accepted summary }
     ensures { result ≡ fresh_counts (trace_of bytes.now) }
 {
     if summary.count == 0 {

@@ -5,7 +5,6 @@ use crate::work;
 use files::{Status, printed};
 use lines::{put_byte, put_long, put_next};
 use std::io::Result;
-use trace::Checked;
 
 // A line for each size: the frames, then the misses. The last line says that these never rise.
 fn say_sizes(out: &impl Print, misses: &[u32; curve::SIZES]) -> Result<()>
@@ -28,8 +27,8 @@ fn draw(out: &impl Print, bytes: &[u8], misses: &[u32; curve::SIZES]) -> Result<
 {
     let c = trace::check(bytes);
     match c {
-        Checked::Refused(_) => Ok(()),
-        Checked::Accepted(s) => picture::draw(out, s.count, s.settings.frames, misses),
+        Err(_) => Ok(()),
+        Ok(s) => picture::draw(out, s.count, s.settings.frames, misses),
     }
 }
 

@@ -5,7 +5,6 @@ use files::{Status, front, printed, spaces};
 use lines::{say, say_first, say_number, say_refused};
 use std::io::Result;
 use text::Exported;
-use trace::Checked;
 use wish::Wish;
 use words::Request;
 use words::names::Command;
@@ -29,8 +28,8 @@ fn ended(rt: &HostRuntime, said: Result<u32>) -> Status {
 fn check(rt: &HostRuntime, bytes: &[u8]) -> Status {
     let c = trace::check(bytes);
     match c {
-        Checked::Refused(r) => refused(rt, r),
-        Checked::Accepted(_) => printed(rt, say(rt, b"accepted\n"), Status::Done),
+        Err(r) => refused(rt, u32::from(r)),
+        Ok(_) => printed(rt, say(rt, b"accepted\n"), Status::Done),
     }
 }
 

@@ -15,7 +15,7 @@ use Rattle.word.proofs.Laws.{sets_append, length_bytes, number_back}
 use Rattle.refusal.specs.Refusals.{no_room}
 use Rattle.refusal.proofs.Laws.{unstored}
 use Rattle.trace.specs.declared.Summary.{Summary}
-use Rattle.trace.specs.declared.Checked.TheVariants.{Accepted, Refused}
+use Rattle.trace.specs.Check.Checked.{Accepted, Refused}
 use Rattle.trace.specs.Check.{refusal_of, check_of, trace_of}
 use Rattle.trace.proofs.Accept.{accepted, refused_is}
 use Rattle.tally.specs.declared.Tally.{Tally}

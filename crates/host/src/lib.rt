@@ -3,12 +3,13 @@
 
 ghost use Rattle.std.specs.Prelude.{◌≡◌, ◌*◌, ◌≤◌, length};
 ghost use Rattle.trace.specs.Check.{check_of, number_of_answer};
+ghost use Rattle.trace.specs.Check.Checked.{Accepted};
 ghost use Rattle.scribe.specs.Write.{ConvertedTo, ConvertsBack};
 ghost use Rattle.std.proofs.lemmas.List.Edits.{sets};
 ghost use Rattle.host.specs.Counts.{words_of, CountsInto};
 ghost use Rattle.host.specs.Curve.{CurveBytesInto};
 
-use trace::{Checked, Summary};
+use trace::Summary;
 use word::{Order, Word};
 
 // The bytes of the counts, 4 for each.
@@ -23,8 +24,8 @@ pub fn hitchyawl_check(bytes: &[u8]) -> u32
 {
     let c = trace::check(bytes);
     match c {
-        Checked::Refused(r) => r,
-        Checked::Accepted(_) => 0,
+        Err(r) => u32::from(r),
+        Ok(_) => 0,
     }
 }
 
@@ -49,7 +50,7 @@ fn put_numbers(out: &mut [u8], order: Order, l: &[u32])
 }
 
 fn counts_accepted(bytes: &[u8], summary: Summary, out: &mut [u8]) -> u32
-    requires { check_of bytes.now ≡ Checked.Accepted summary }
+    requires { check_of bytes.now ≡ Accepted summary }
     ensures { CountsInto bytes.now out.old result out.new }
 {
     if out.len() < COUNTS_BYTES {
@@ -67,13 +68,13 @@ pub fn hitchyawl_counts(bytes: &[u8], out: &mut [u8]) -> u32
 {
     let c = trace::check(bytes);
     match c {
-        Checked::Refused(number) => number,
-        Checked::Accepted(summary) => counts_accepted(bytes, summary, out),
+        Err(number) => u32::from(number),
+        Ok(summary) => counts_accepted(bytes, summary, out),
     }
 }
 
 fn curve_accepted(bytes: &[u8], summary: Summary, out: &mut [u8]) -> u32
-    requires { check_of bytes.now ≡ Checked.Accepted summary }
+    requires { check_of bytes.now ≡ Accepted summary }
     ensures { CurveBytesInto bytes.now out.old result out.new }
 {
     let mut list = [0u32; curve::SIZES];
@@ -95,7 +96,7 @@ pub fn hitchyawl_curve(bytes: &[u8], out: &mut [u8]) -> u32
 {
     let c = trace::check(bytes);
     match c {
-        Checked::Refused(fault) => fault,
-        Checked::Accepted(summary) => curve_accepted(bytes, summary, out),
+        Err(fault) => u32::from(fault),
+        Ok(summary) => curve_accepted(bytes, summary, out),
     }
 }

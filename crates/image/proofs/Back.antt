@@ -10,6 +10,7 @@ use lib.ListN.{length, get_or, take, drop, replicate, length-append, length-drop
 use lib.Seq.{sets, drop-append-add, length-take-le, get_or-take, get_or-drop}
 use lib.Dec.{ltb}
 use borrow.Author.Tests.{eq-eqb, le-leb, lt-ltb, le-ltb}
+use Rattle.std.specs.Prelude.{Some}
 use Rattle.word.specs.Number.{number_of, bytes_of}
 use Rattle.word.specs.declared.Order.{Order}
 use Rattle.word.specs.declared.Order.TheVariants.{High, Low}
@@ -19,7 +20,6 @@ use Rattle.search.proofs.Count.{count_few, lowest_count}
 use Rattle.settings.specs.Settings.{settings_bytes}
 use Rattle.settings.proofs.Laws.{ranges}
 use Rattle.settings.proofs.Places.{settings_back}
-use Rattle.trace.specs.declared.Mark.TheVariants.{Known}
 use Rattle.trace.specs.Layout.{mark_of}
 use Rattle.pool.specs.declared.Frame.{Frame}
 use Rattle.pool.specs.declared.Pool.{Pool}
@@ -57,7 +57,7 @@ unfolding header_bytes settings_bytes
 header_read High p u rest = record { is_edition = refl; is_zero₁ = refl; is_used = refl; is_offset = refl; is_entry = refl; is_long = refl; is_zero₂ = refl; is_k = refl; is_hand = refl; is_zero₃ = refl; is_sampler = refl; is_zero₄ = refl }
 header_read Low p u rest = record { is_edition = refl; is_zero₁ = refl; is_used = refl; is_offset = refl; is_entry = refl; is_long = refl; is_zero₂ = refl; is_k = refl; is_hand = refl; is_zero₃ = refl; is_sampler = refl; is_zero₄ = refl }
 
-mark_read : (o : Order) (p : Pool) (u : ℕ) (rest : List ℕ) → mark_of (header_bytes o p u ++ rest) ≡ Known o
+mark_read : (o : Order) (p : Pool) (u : ℕ) (rest : List ℕ) → mark_of (header_bytes o p u ++ rest) ≡ Some o
 unfolding header_bytes
 mark_read High p u rest = refl
 mark_read Low p u rest = refl
@@ -204,7 +204,7 @@ module _ (o : Order) (p : Pool) (ty : Typed p) (ok : sound_pool p ≡ true) wher
   unfolding encode_pool
   head = header_read o p u (run_of (entry_bytes o p) u)
 
-  pub mark : mark_of image ≡ Known o
+  pub mark : mark_of image ≡ Some o
   unfolding encode_pool
   mark = mark_read o p u (run_of (entry_bytes o p) u)
 

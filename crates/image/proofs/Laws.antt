@@ -8,6 +8,7 @@ use lib.ListN.{length, get_or, length-append, get_or-eq_default}
 use lib.Seq.{sets, length-sets}
 use lib.Dec.{eqb, leb}
 use borrow.Author.Tests.{eqb-true, leb-true, le-leb, lt-leb}
+use Rattle.std.specs.Prelude.{Option, Some, None}
 use Rattle.word.specs.Number.{number_at}
 use Rattle.word.specs.declared.Order.{Order}
 use Rattle.word.proofs.Laws.{sets_append, length_bytes}
@@ -17,8 +18,6 @@ use Rattle.refusal.specs.Refusals.{demand, or_else, bad_field, not_sound, other_
 use Rattle.refusal.proofs.Laws.{met, or_first, neither, unstored}
 use Rattle.settings.specs.Settings.{one_frame, settings_bytes}
 use Rattle.settings.proofs.Places.{length_settings}
-use Rattle.trace.specs.declared.Mark.{Mark}
-use Rattle.trace.specs.declared.Mark.TheVariants.{Known, Unknown}
 use Rattle.trace.specs.Layout.{mark_high, mark_low, begins, mark_of}
 use Rattle.trace.proofs.Lists.{length_up_to}
 use Rattle.trace.proofs.Sizes.{length_mark}
@@ -105,14 +104,14 @@ filled o s h =
 
 -- bytes in the order o that hold a pool
 pub record Held (o : Order) (s : List ℕ) : Type 0 where
-  pub mark : mark_of s ≡ Known o
+  pub mark : mark_of s ≡ Some o
   pub laid : LaidOut o s
   pub fill : Filled o s
 
-by_mark : (m : Mark) (s : List ℕ) → mark_of s ≡ m → held_refusal_marked m s ≡ 0 → (o : Order) × Held o s
+by_mark : (m : Option Order) (s : List ℕ) → mark_of s ≡ m → held_refusal_marked m s ≡ 0 → (o : Order) × Held o s
 unfolding held_refusal_in
-by_mark Unknown s e h = absurd (omega arith)
-by_mark (Known o) s e h =
+by_mark None s e h = absurd (omega arith)
+by_mark (Some o) s e h =
     let b = neither (layout_refusal o s) (content_refusal o s) h in
     (o, record { mark = e; laid = laid_out o s b.0; fill = filled o s b.1 })
 
@@ -120,7 +119,7 @@ pub holds : (s : List ℕ) → held_refusal s ≡ 0 → (o : Order) × Held o s
 unfolding held_refusal
 holds s h = by_mark (mark_of s) s refl (met (leb image_header (length s)) too_short (held_refusal_marked (mark_of s) s) (omega arith) h).1
 
-pub order_is : (o : Order) (s : List ℕ) → mark_of s ≡ Known o → order_of s ≡ o
+pub order_is : (o : Order) (s : List ℕ) → mark_of s ≡ Some o → order_of s ≡ o
 unfolding order_of
 order_is o s e = rw e
 
@@ -129,7 +128,7 @@ pub holds_marked : (s : List ℕ) → held_refusal s ≡ 0 → Held (order_of s)
 holds_marked s h = let p = holds s h in rw (order_is p.0 s p.1.mark) p.1
 
 -- under four bytes there is no mark
-pub no_mark : (s : List ℕ) → length s < 4 → mark_of s ≡ Unknown
+pub no_mark : (s : List ℕ) → length s < 4 → mark_of s ≡ None
 no_mark s l =
     let z : get_or s 3 0 ≡ 0 = get_or-eq_default s 0 {n = 3} (omega arith) in
     let h : begins s mark_high ≡ false = rw z (simp and-false) in

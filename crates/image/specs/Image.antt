@@ -1,11 +1,9 @@
 -- Reading and writing an image: the refusals in their order, the pool or the bytes.
-use Rattle.std.specs.Prelude.{ℕ, zero, suc, ◌*◌, ◌<◌, ◌≡◌, Bool, ◌&&◌, List, length, eqb, leb}
+use Rattle.std.specs.Prelude.{Option, Some, None, ℕ, zero, suc, ◌*◌, ◌<◌, ◌≡◌, Bool, ◌&&◌, List, length, eqb, leb}
 use Rattle.word.specs.declared.Order.{Order}
 use Rattle.search.specs.Search.{every_below}
 use Rattle.refusal.specs.Refusals.{demand, or_else, stored, too_short, unknown_mark, other_edition, wrong_length, bad_field, no_room, not_sound}
 use Rattle.settings.specs.Settings.{one_frame}
-use Rattle.trace.specs.declared.Mark.{Mark}
-use Rattle.trace.specs.declared.Mark.TheVariants.{Known, Unknown}
 use Rattle.trace.specs.Layout.{mark_of}
 use Rattle.trace.specs.Check.{order_marked}
 use Rattle.pool.specs.declared.Pool.{Pool}
@@ -52,9 +50,9 @@ module _ (o : Order) (s : List ℕ) where
   held_refusal_in = or_else layout_refusal content_refusal
 
 -- 2 unknown mark
-abbrev pub held_refusal_marked : Mark → List ℕ → ℕ
-held_refusal_marked (Known o) s = held_refusal_in o s
-held_refusal_marked Unknown s = unknown_mark
+abbrev pub held_refusal_marked : Option Order → List ℕ → ℕ
+held_refusal_marked (Some o) s = held_refusal_in o s
+held_refusal_marked None s = unknown_mark
 
 -- 1 under 64 bytes
 unfoldable pub held_refusal : List ℕ → ℕ

@@ -14,7 +14,6 @@ ghost use Rattle.image.specs.Image.{layout_refusal, header_zeros, entry_zero, en
 use entry::ENTRY_LENGTH;
 use pool::{Frame, Opened, Pool};
 use refusal::demanded;
-use trace::Mark;
 use word::{Order, Word};
 
 pub const EDITION: u16 = 1;
@@ -118,8 +117,8 @@ fn held_refusal(bytes: &[u8]) -> u32
     }
     let m = trace::mark_of(bytes);
     match m {
-        Mark::Known(order) => held_refusal_in(bytes, order),
-        Mark::Unknown => refusal::UNKNOWN_MARK,
+        Some(order) => held_refusal_in(bytes, order),
+        None => refusal::UNKNOWN_MARK,
     }
 }
 
@@ -132,8 +131,8 @@ pub fn order_of(bytes: &[u8]) -> Order
     }
     let m = trace::mark_of(bytes);
     match m {
-        Mark::Known(order) => order,
-        Mark::Unknown => Order::High,
+        Some(order) => order,
+        None => Order::High,
     }
 }
 

@@ -6,10 +6,9 @@ use Rattle.refusal.proofs.Laws.{or_first}
 use Rattle.settings.specs.declared.Settings.{Settings}
 use Rattle.settings.specs.Settings.{in_range, one_frame}
 use Rattle.trace.specs.declared.Summary.{Summary}
-use Rattle.trace.specs.declared.Checked.{Checked}
-use Rattle.trace.specs.declared.Checked.TheVariants.{Accepted, Refused}
+use Rattle.trace.specs.Check.Checked.{Accepted, Refused}
 use Rattle.trace.specs.Layout.{record_limit, writes_in}
-use Rattle.trace.specs.Check.{check_of, trace_of}
+use Rattle.trace.specs.Check.{check_of, trace_of, Checked}
 use Rattle.trace.proofs.Lists.{writes_le}
 use Rattle.trace.proofs.Accept.{accepted_few, counts_are}
 use Rattle.pool.specs.declared.Pool.{Pool}

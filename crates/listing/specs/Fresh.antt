@@ -1,7 +1,7 @@
 -- The pool that a listing starts from.
 use Rattle.settings.specs.Settings.{one_frame}
-use Rattle.trace.specs.declared.Checked.{Checked}
-use Rattle.trace.specs.declared.Checked.TheVariants.{Accepted, Refused}
+use Rattle.trace.specs.Check.{Checked}
+use Rattle.trace.specs.Check.Checked.{Accepted, Refused}
 use Rattle.pool.specs.declared.Pool.{Pool}
 use Rattle.pool.specs.Pool.{fresh_pool, fresh_of}
 

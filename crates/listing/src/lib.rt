@@ -18,7 +18,7 @@ use replay::Ended;
 use settings::Settings;
 use std::io::Result;
 use tally::Tally;
-use trace::{Checked, Summary};
+use trace::Summary;
 use word::Order;
 
 // Four numbers for each record of the longest trace.
@@ -31,8 +31,8 @@ const WRITTEN: usize = trace::RECORD_LIMIT + 128;
 fn count_of(bytes: &[u8]) -> u32 {
     let c = trace::check(bytes);
     match c {
-        Checked::Accepted(summary) => summary.count,
-        Checked::Refused(_) => 0,
+        Ok(summary) => summary.count,
+        Err(_) => 0,
     }
 }
 
@@ -50,8 +50,8 @@ pub fn fresh_for(bytes: &[u8]) -> Pool
 {
     let c = trace::check(bytes);
     match c {
-        Checked::Accepted(summary) => fresh_by(summary.settings),
-        Checked::Refused(_) => fresh_by(settings::one_frame()),
+        Ok(summary) => fresh_by(summary.settings),
+        Err(_) => fresh_by(settings::one_frame()),
     }
 }
 
@@ -188,11 +188,12 @@ pub fn inspect(out: &impl Print, bytes: &[u8]) -> Result<u32>
 {
     let c = trace::check(bytes);
     let answer = match c {
-        Checked::Refused(r) => {
+        Err(refusal) => {
+            let r = u32::from(refusal);
             say_refused(out, r)?;
             r
         }
-        Checked::Accepted(summary) => {
+        Ok(summary) => {
             say_summary(out, summary, trace::writes(bytes, summary))?;
             0
         }

@@ -6,6 +6,8 @@ use Prim.Native.Nat.{ℕ, zero, suc, ◌<◌}
 use native.Mathlib.Omega.{arith}
 use lib.ListN.{get_or}
 use Rattle.std.specs.Prelude.{Result, Err}
+use Rattle.std.specs.Result.{IsErr, IsErrAnd}
+use Rattle.std.proofs.lemmas.Result.{err_from_is_err_and}
 use Rattle.refusal.specs.declared.Refusal.{Refusal}
 use Rattle.refusal.specs.declared.Refusal.TheVariants.{TooShort, UnknownMark, OtherEdition, TooMany, WrongLength, BadField, WrongWrites, OutOfRange, NoReferenceLeft, NoFrame, NotPinned, PinsFull, NoRoom, NotSound, OtherSettings, HasPins}
 use Rattle.refusal.specs.Refusals.{demand, or_else, stored}
@@ -67,3 +69,7 @@ number_injective r q e = sym (named r) ∙ ap (λ (n : ℕ). get_or every n TooS
 -- an answer of 0 refuses nothing
 pub answer_none : {T : Type 0} (a : Result T Refusal) (r : Refusal) → a ≡ Err r → answer_of a ≡ 0 → ⊥
 answer_none a r e h = let some = number_some r in let n : number_of r ≡ 0 = rw e at h in omega arith
+
+-- a `?` passes on the refusal that it met
+pub passed_on : {T : Type 0} (a : Result T Refusal) (r : Refusal) → IsErr a × IsErrAnd a (λ e. e ≡ r) → a ≡ Err r
+passed_on a r h = let p = err_from_is_err_and a h.1 in p.1 ∙ ap Err p.2

@@ -9,7 +9,7 @@ use Rattle.word.specs.declared.Order.{Order}
 use Rattle.word.proofs.Laws.{bytes_of_lem}
 use Rattle.trace.specs.Layout.{Trace}
 use Rattle.trace.specs.Encode.{Proper}
-use Rattle.trace.specs.declared.Checked.TheVariants.{Accepted}
+use Rattle.trace.specs.Check.Checked.{Accepted}
 use Rattle.trace.specs.Check.{checked, trace_of, check_of}
 use Rattle.trace.proofs.Whole.{proper}
 use Rattle.trace.proofs.Bytes.{encode_bytes}

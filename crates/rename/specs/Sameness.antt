@@ -3,7 +3,7 @@ use Rattle.std.specs.Prelude.{ℕ, ◌*◌, ◌<◌, ◌≡◌, true, List, [], 
 use Rattle.search.specs.Search.{pick, among}
 use Rattle.word.specs.declared.Order.{Order}
 use Rattle.trace.specs.Layout.{Trace}
-use Rattle.trace.specs.declared.Checked.TheVariants.{Accepted}
+use Rattle.trace.specs.Check.Checked.{Accepted}
 use Rattle.trace.specs.Check.{refusal_of, trace_of, check_of}
 use Rattle.pool.specs.declared.Frame.{Frame}
 use Rattle.pool.specs.declared.Pool.{Pool}

@@ -10,7 +10,7 @@ use Rattle.refusal.proofs.Laws.{met, or_first}
 use Rattle.settings.specs.declared.Settings.{Settings}
 use Rattle.settings.specs.Settings.{same_settings}
 use Rattle.trace.specs.declared.Summary.{Summary}
-use Rattle.trace.specs.declared.Checked.TheVariants.{Accepted, Refused}
+use Rattle.trace.specs.Check.Checked.{Accepted, Refused}
 use Rattle.trace.specs.Check.{check_of, trace_of}
 use Rattle.trace.proofs.Accept.{accepted, refused_is}
 use Rattle.pool.specs.declared.Pool.{Pool}

@@ -2,7 +2,7 @@
 use Rattle.std.specs.Prelude.{ℕ, ◌≡◌, true, List}
 use Rattle.std.proofs.lemmas.List.Edits.{sets}
 use Rattle.trace.specs.declared.Summary.{Summary}
-use Rattle.trace.specs.declared.Checked.TheVariants.{Accepted}
+use Rattle.trace.specs.Check.Checked.{Accepted}
 use Rattle.trace.specs.Check.{check_of, trace_of}
 use Rattle.pool.specs.declared.Pool.{Pool}
 use Rattle.tally.specs.declared.Tally.{Tally}

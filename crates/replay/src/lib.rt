@@ -5,6 +5,7 @@ ghost use Rattle.std.specs.Prelude.{◌≡◌, true, ◌+◌, ◌≤◌, length}
 ghost use Rattle.refusal.specs.Refusals.{demand, no_room, other_settings};
 ghost use Rattle.settings.specs.Settings.{same_settings};
 ghost use Rattle.trace.specs.Check.{check_of, trace_of};
+ghost use Rattle.trace.specs.Check.Checked.{Accepted};
 ghost use Rattle.effect.specs.Record.{dirty_in};
 ghost use Rattle.replay.specs.Replay.{replay_of};
 ghost use Rattle.replay.specs.Calls.{may_begin, step_refusal, StepInto, room_for, ended_as, ended_of, counts_of, ReplayInto};
@@ -12,7 +13,7 @@ ghost use Rattle.replay.specs.ForCode.{Ready, RanInto};
 
 use pool::Pool;
 use tally::{Row, Tally};
-use trace::{Checked, Summary};
+use trace::Summary;
 
 // What a step gives: a refusal or 0, its row, and pool and tally afterwards.
 #[derive(Clone, Copy)]
@@ -189,7 +190,7 @@ pub fn count(pool: Pool, tally: Tally, bytes: &[u8], summary: Summary) -> Ended
 
 // An accepted trace: 15, then its records.
 fn count_accepted(pool: Pool, tally: Tally, bytes: &[u8], summary: Summary) -> Ended
-    requires { (may_begin pool tally ≡ true) × (check_of bytes.now ≡ Checked.Accepted summary) }
+    requires { (may_begin pool tally ≡ true) × (check_of bytes.now ≡ Accepted summary) }
     ensures { result ≡ counts_of pool tally bytes.now }
 {
     if settings::same(summary.settings, pool.settings) {
@@ -207,14 +208,14 @@ pub fn counts(pool: Pool, tally: Tally, bytes: &[u8]) -> Ended
     }
     let c = trace::check(bytes);
     match c {
-        Checked::Refused(r) => ending(r, pool, tally),
-        Checked::Accepted(summary) => count_accepted(pool, tally, bytes, summary),
+        Err(r) => ending(u32::from(r), pool, tally),
+        Ok(summary) => count_accepted(pool, tally, bytes, summary),
     }
 }
 
 // Refusals 15 and 13 of a replay of an accepted trace, or 0.
 fn accepted_refusal(p: Pool, bytes: &[u8], summary: Summary, rows: usize, places: usize) -> u32
-    requires { check_of bytes.now ≡ Checked.Accepted summary }
+    requires { check_of bytes.now ≡ Accepted summary }
     ensures { result ≡ demand (same_settings (trace_of bytes.now).settings p.settings) other_settings (demand (room_for p (trace_of bytes.now) rows places) no_room 0) }
 {
     let n = summary.count as usize;
@@ -235,7 +236,7 @@ fn replay_accepted(
     rows: &mut [u32],
     written: &mut [u32],
 ) -> Ended
-    requires { (may_begin pool tally ≡ true) × (check_of bytes.now ≡ Checked.Accepted summary) }
+    requires { (may_begin pool tally ≡ true) × (check_of bytes.now ≡ Accepted summary) }
     ensures { ReplayInto pool tally bytes.now rows.old written.old result rows.new written.new }
 {
     let r = accepted_refusal(pool, bytes, summary, rows.len(), written.len());
@@ -261,7 +262,7 @@ pub fn replay(
     }
     let c = trace::check(bytes);
     match c {
-        Checked::Refused(number) => ending(number, pool, tally),
-        Checked::Accepted(summary) => replay_accepted(pool, tally, bytes, summary, rows, written),
+        Err(number) => ending(u32::from(number), pool, tally),
+        Ok(summary) => replay_accepted(pool, tally, bytes, summary, rows, written),
     }
 }

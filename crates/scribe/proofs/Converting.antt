@@ -17,7 +17,7 @@ use Rattle.trace.specs.Encode.{header_bytes, records_to, other, turned, Proper}
 use Rattle.trace.specs.Check.{refusal_of, trace_of, decode, check_of}
 use Rattle.trace.specs.Check.Outcome.{Whole}
 use Rattle.trace.specs.declared.Summary.{Summary}
-use Rattle.trace.specs.declared.Checked.TheVariants.{Refused, Accepted}
+use Rattle.trace.specs.Check.Checked.{Refused, Accepted}
 use Rattle.trace.proofs.Accept.{accepted, refused_is}
 use Rattle.trace.proofs.Sizes.{length_encode}
 use Rattle.trace.proofs.Round.{decode_encode}

@@ -8,10 +8,9 @@ use borrow.Author.Tests.{le-leb}
 use Rattle.word.proofs.Laws.{sets_front}
 use Rattle.trace.specs.Layout.{Trace, trace_from, file_length}
 use Rattle.trace.specs.Encode.{encode}
-use Rattle.trace.specs.Check.{summary_of, read_refusal, ReadInto, WritesAgain}
+use Rattle.trace.specs.Check.{summary_of, read_refusal, ReadInto, WritesAgain, Checked}
 use Rattle.trace.specs.declared.Summary.{Summary}
-use Rattle.trace.specs.declared.Checked.{Checked}
-use Rattle.trace.specs.declared.Checked.TheVariants.{Accepted}
+use Rattle.trace.specs.Check.Checked.{Accepted}
 use Rattle.refusal.proofs.Laws.{unstored}
 use Rattle.trace.proofs.Sizes.{length_encode}
 use Rattle.trace.proofs.Round.{decode_encode}

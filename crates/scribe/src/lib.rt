@@ -6,11 +6,12 @@ ghost use Rattle.std.proofs.lemmas.List.Edits.{sets};
 ghost use Rattle.trace.specs.Layout.{record_limit, header_length, file_length, known_kinds, writes_in, trace_from};
 ghost use Rattle.trace.specs.Encode.{records_to, encode, other};
 ghost use Rattle.trace.specs.Check.{check_of, trace_of};
+ghost use Rattle.trace.specs.Check.Checked.{Accepted};
 ghost use Rattle.scribe.specs.Write.{write_refusal, WrittenTo, ReadsBack, ConvertedTo, ConvertsBack};
 
 use refusal::demanded;
 use settings::Settings;
-use trace::{Checked, HEADER_LENGTH, RECORD_LENGTH, Summary};
+use trace::{HEADER_LENGTH, RECORD_LENGTH, Summary};
 use word::Order;
 
 // What one pass over kinds finds.
@@ -110,7 +111,7 @@ fn other_order(order: Order) -> Order
 
 // The records of an accepted trace in an order, at their places in `out`.
 fn convert_records(bytes: &[u8], summary: Summary, order: Order, out: &mut [u8])
-    requires { (check_of bytes.now ≡ Checked.Accepted summary) × (length bytes.now ≤ length out.old) }
+    requires { (check_of bytes.now ≡ Accepted summary) × (length bytes.now ≤ length out.old) }
     ensures { out.new ≡ sets out.old header_length (records_to order (trace_of bytes.now).pages (trace_of bytes.now).kinds summary.count) }
 {
     let n = summary.count as usize;
@@ -129,7 +130,7 @@ fn convert_records(bytes: &[u8], summary: Summary, order: Order, out: &mut [u8])
 }
 
 fn convert_accepted(bytes: &[u8], summary: Summary, out: &mut [u8]) -> u32
-    requires { check_of bytes.now ≡ Checked.Accepted summary }
+    requires { check_of bytes.now ≡ Accepted summary }
     ensures { ConvertedTo bytes.now out.old result out.new }
 {
     if out.len() < bytes.len() {
@@ -151,7 +152,7 @@ pub fn convert(bytes: &[u8], out: &mut [u8]) -> u32
 {
     let c = trace::check(bytes);
     match c {
-        Checked::Refused(r) => r,
-        Checked::Accepted(summary) => convert_accepted(bytes, summary, out),
+        Err(r) => u32::from(r),
+        Ok(summary) => convert_accepted(bytes, summary, out),
     }
 }

@@ -12,7 +12,7 @@ use Rattle.word.proofs.Laws.{sets_append}
 use Rattle.refusal.specs.Refusals.{no_room}
 use Rattle.trace.specs.Layout.{Trace}
 use Rattle.trace.specs.declared.Summary.{Summary}
-use Rattle.trace.specs.declared.Checked.TheVariants.{Accepted, Refused}
+use Rattle.trace.specs.Check.Checked.{Accepted, Refused}
 use Rattle.trace.specs.Check.{refusal_of, check_of, trace_of}
 use Rattle.trace.proofs.Accept.{accepted, counts_are, refused_is}
 use Rattle.text.specs.declared.Exported.{Exported}

@@ -8,9 +8,10 @@ ghost use Rattle.search.specs.Search.{pick};
 ghost use Rattle.refusal.specs.Refusals.{or_else};
 ghost use Rattle.text.specs.Text.{begins_with, is_passed, record_line, record_if, line_of, lines_in, is_bad, first_bad, page_of, kind_of, pages_in, kinds_in, word_of, decimal_of, line_text, line_room, text_of, ExportedInto};
 ghost use Rattle.trace.specs.Check.{check_of, trace_of};
+ghost use Rattle.trace.specs.Check.Checked.{Accepted};
 ghost use Rattle.text.specs.ForCode.{line_end};
 
-use trace::{Checked, Summary};
+use trace::Summary;
 
 // What a line is: passed over, a record's kind and page, or bad.
 #[derive(Clone, Copy)]
@@ -260,7 +261,7 @@ fn put_line(out: &mut [u8], at: usize, kind: u16, page: u32) -> usize
 
 // The lines of an accepted trace; answers how many bytes they have.
 fn put_lines(bytes: &[u8], summary: Summary, out: &mut [u8]) -> usize
-    requires { (check_of bytes.now ≡ Checked.Accepted summary) × (line_room * summary.count ≤ length out.old) }
+    requires { (check_of bytes.now ≡ Accepted summary) × (line_room * summary.count ≤ length out.old) }
     ensures value { result ≡ length (text_of (trace_of bytes.now)) }
     ensures out_after { out.new ≡ sets out.old 0 (text_of (trace_of bytes.now)) }
 {
@@ -276,7 +277,7 @@ fn put_lines(bytes: &[u8], summary: Summary, out: &mut [u8]) -> usize
 }
 
 fn export_accepted(bytes: &[u8], summary: Summary, out: &mut [u8]) -> Exported
-    requires { check_of bytes.now ≡ Checked.Accepted summary }
+    requires { check_of bytes.now ≡ Accepted summary }
     ensures { ExportedInto bytes.now out.old result out.new }
 {
     let n = summary.count as usize;
@@ -292,7 +293,7 @@ pub fn export(bytes: &[u8], out: &mut [u8]) -> Exported
 {
     let c = trace::check(bytes);
     match c {
-        Checked::Refused(r) => Exported::Refused(r),
-        Checked::Accepted(summary) => export_accepted(bytes, summary, out),
+        Err(r) => Exported::Refused(u32::from(r)),
+        Ok(summary) => export_accepted(bytes, summary, out),
     }
 }

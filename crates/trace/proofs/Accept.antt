@@ -7,17 +7,16 @@ use native.Mathlib.Omega.{arith}
 use lib.ListN.{length}
 use lib.Dec.{eqb, leb}
 use borrow.Author.Tests.{eqb-true}
+use Rattle.std.specs.Prelude.{Option, Some, None}
 use Rattle.word.specs.declared.Order.{Order}
 use Rattle.refusal.specs.Refusals.{demand, bad_field, out_of_range, too_short, wrong_writes}
 use Rattle.refusal.proofs.Laws.{met, neither}
 use Rattle.settings.specs.Settings.{in_range}
 use Rattle.trace.specs.Layout.{header_length, file_length, mark_of, first_zero_at, last_zero_at, writes_at, count_at, settings_in, page_at, kind_at, kinds_at, zeros_at, known_kinds, all_zero, writes_in, trace_at, record_in, record_limit}
 use Rattle.trace.specs.Check.{zeros_right, layout_refusal, content_refusal, refusal_in, refusal_marked, refusal_of, trace_of, decode, summary_of, check_of, number_of_answer}
-use Rattle.trace.specs.declared.Mark.{Mark}
-use Rattle.trace.specs.declared.Mark.TheVariants.{Known, Unknown}
 use Rattle.trace.specs.declared.Summary.{Summary}
 use Rattle.trace.specs.declared.Record.{Record}
-use Rattle.trace.specs.declared.Checked.TheVariants.{Refused, Accepted}
+use Rattle.trace.specs.Check.Checked.{Refused, Accepted}
 use Rattle.trace.proofs.Lists.{length_up_to, up_to_at}
 use Rattle.trace.proofs.Laws.{LaidOut, laid_out, accepts, refuses, number_is}
 
@@ -57,14 +56,14 @@ filled o s h =
 
 -- a trace in the order o that nothing refuses
 pub record Passed (o : Order) (s : List ℕ) : Type 0 where
-  pub mark : mark_of s ≡ Known o
+  pub mark : mark_of s ≡ Some o
   pub laid : LaidOut o s
   pub fill : Filled o s
 
-by_mark : (m : Mark) (s : List ℕ) → mark_of s ≡ m → refusal_marked m s ≡ 0 → (o : Order) × Passed o s
+by_mark : (m : Option Order) (s : List ℕ) → mark_of s ≡ m → refusal_marked m s ≡ 0 → (o : Order) × Passed o s
 unfolding refusal_in
-by_mark Unknown s e h = absurd (omega arith)
-by_mark (Known o) s e h =
+by_mark None s e h = absurd (omega arith)
+by_mark (Some o) s e h =
     let b = neither (layout_refusal o s) (content_refusal o s) h in
     (o, record { mark = e; laid = laid_out o s b.0; fill = filled o s b.1 })
 
@@ -73,7 +72,7 @@ unfolding refusal_of
 passed s h = by_mark (mark_of s) s refl (met (leb header_length (length s)) too_short (refusal_marked (mark_of s) s) (omega arith) h).1
 
 -- the trace of such bytes
-pub trace_is : (o : Order) (s : List ℕ) → mark_of s ≡ Known o → trace_of s ≡ trace_at o s
+pub trace_is : (o : Order) (s : List ℕ) → mark_of s ≡ Some o → trace_of s ≡ trace_at o s
 unfolding trace_of
 trace_is o s e = rw e
 

@@ -9,6 +9,7 @@ use lib.ListN.{length, get_or, take}
 use lib.Seq.{take_all}
 use lib.Dec.{eqb}
 use borrow.Author.Tests.{eqb-true}
+use Rattle.std.specs.Prelude.{Some, None}
 use Rattle.word.proofs.Laws.{Bytes, part}
 use Rattle.word.specs.declared.Order.{Order}
 use Rattle.word.specs.declared.Order.TheVariants.{High, Low}
@@ -17,7 +18,6 @@ use Rattle.settings.specs.Settings.{settings_bytes}
 use Rattle.settings.proofs.Places.{join, join_is, settings_join}
 use Rattle.trace.specs.Layout.{mark_high, mark_low, begins, mark_of, file_length, edition_at, first_zero_at, count_at, offset_at, writes_at, length_at, last_zero_at, settings_in, page_at, kind_at, zero_at, pages_at, kinds_at, writes_in, trace_at}
 use Rattle.trace.specs.Encode.{mark_bytes, header_bytes, record_bytes, records_to, encode}
-use Rattle.trace.specs.declared.Mark.TheVariants.{Known, Unknown}
 use Rattle.trace.proofs.Lists.{length_up_to, up_to_at, zero_at_lem}
 use Rattle.trace.proofs.Accept.{Passed}
 
@@ -42,17 +42,17 @@ begins_is s m e =
       eqb-true (get_or s 3 0) (get_or m 3 0) b2.1,
     )
 
-high_found : (a b : Bool) → pick a (Known High) (pick b (Known Low) Unknown) ≡ Known High → a ≡ true
+high_found : (a b : Bool) → pick a (Some High) (pick b (Some Low) None) ≡ Some High → a ≡ true
 high_found true b h = refl
 high_found false true h = absurd (let z : ◌≡◌ {A = ℕ} 0 1 = cc in omega arith)
 high_found false false h = absurd (let z : ◌≡◌ {A = ℕ} 0 1 = cc in omega arith)
 
-low_found : (a b : Bool) → pick a (Known High) (pick b (Known Low) Unknown) ≡ Known Low → b ≡ true
+low_found : (a b : Bool) → pick a (Some High) (pick b (Some Low) None) ≡ Some Low → b ≡ true
 low_found true b h = absurd (let z : ◌≡◌ {A = ℕ} 0 1 = cc in omega arith)
 low_found false true h = refl
 low_found false false h = absurd (let z : ◌≡◌ {A = ℕ} 0 1 = cc in omega arith)
 
-pub mark_again : (o : Order) (s : List ℕ) → 4 ≤ length s → mark_of s ≡ Known o → take 4 s ≡ mark_bytes o
+pub mark_again : (o : Order) (s : List ℕ) → 4 ≤ length s → mark_of s ≡ Some o → take 4 s ≡ mark_bytes o
 unfolding first4
 mark_again High s h e = part 4 0 s (omega arith) ∙ begins_is s mark_high (high_found (begins s mark_high) (begins s mark_low) e)
 mark_again Low s h e = part 4 0 s (omega arith) ∙ begins_is s mark_low (low_found (begins s mark_high) (begins s mark_low) e)

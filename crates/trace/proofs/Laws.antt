@@ -14,7 +14,7 @@ use Rattle.trace.specs.Layout.{Trace, edition, record_limit, header_length, file
 use Rattle.trace.specs.Check.{layout_refusal, lengths_right, outcome, summary_of, checked, number_of_answer}
 use Rattle.trace.specs.Check.Outcome.{Whole}
 use Rattle.trace.specs.declared.Summary.{Summary}
-use Rattle.trace.specs.declared.Checked.TheVariants.{Refused, Accepted}
+use Rattle.trace.specs.Check.Checked.{Refused, Accepted}
 use Rattle.trace.proofs.Lists.{length_up_to}
 
 -- what refusals 3 to 5 demand

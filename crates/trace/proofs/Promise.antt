@@ -3,10 +3,9 @@ use mathlib.Core.Path.{◌≡◌, sym, ◌∙◌}
 use mathlib.Core.List.{List}
 use Prim.Native.Nat.{ℕ}
 use Rattle.word.proofs.Laws.{Bytes}
-use Rattle.trace.specs.Check.{decode, check_of, Promised, Promises}
+use Rattle.trace.specs.Check.{decode, check_of, Promised, Promises, Checked}
 use Rattle.trace.specs.declared.Summary.{Summary}
-use Rattle.trace.specs.declared.Checked.{Checked}
-use Rattle.trace.specs.declared.Checked.TheVariants.{Accepted}
+use Rattle.trace.specs.Check.Checked.{Accepted}
 use Rattle.trace.proofs.Accept.{accepted}
 use Rattle.trace.proofs.Whole.{proper}
 

@@ -12,10 +12,9 @@ use Rattle.word.proofs.Laws.{Bytes, sets_front}
 use Rattle.refusal.specs.Refusals.{demand, or_else, no_room}
 use Rattle.refusal.proofs.Laws.{met, neither, or_first, unstored}
 use Rattle.trace.specs.Layout.{record_limit}
-use Rattle.trace.specs.Check.{summary_of, refusal_of, trace_of, check_of, read_refusal, ReadInto, WritesAgain}
+use Rattle.trace.specs.Check.{summary_of, refusal_of, trace_of, check_of, read_refusal, ReadInto, WritesAgain, Checked}
 use Rattle.trace.specs.declared.Summary.{Summary}
-use Rattle.trace.specs.declared.Checked.{Checked}
-use Rattle.trace.specs.declared.Checked.TheVariants.{Refused, Accepted}
+use Rattle.trace.specs.Check.Checked.{Refused, Accepted}
 use Rattle.trace.proofs.Laws.{refused, refuses, accepts}
 use Rattle.trace.proofs.Accept.{accepted, refused_is, counts_are}
 use Rattle.trace.proofs.Whole.{proper, encode_trace}

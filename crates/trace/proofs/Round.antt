@@ -7,6 +7,7 @@ use native.Mathlib.Nat.{add-zero, add_assoc, eq-or-lt_of_le}
 use native.Mathlib.Omega.{arith}
 use lib.ListN.{length, get_or}
 use borrow.Author.Tests.{eq-eqb, le-leb}
+use Rattle.std.specs.Prelude.{Some}
 use Rattle.word.specs.Number.{number_at, number_of, bytes_of}
 use Rattle.word.specs.declared.Order.{Order}
 use Rattle.word.specs.declared.Order.TheVariants.{High, Low}
@@ -19,7 +20,6 @@ use Rattle.trace.specs.Layout.{Trace, record_limit, header_length, file_length, 
 use Rattle.trace.specs.Encode.{front_bytes, header_bytes, record_bytes, records_to, encode, Proper}
 use Rattle.trace.specs.Check.{layout_refusal, content_refusal, refusal_in, refusal_of, trace_of, decode}
 use Rattle.trace.specs.Check.Outcome.{Whole}
-use Rattle.trace.specs.declared.Mark.TheVariants.{Known}
 use Rattle.trace.proofs.Lists.{up_to_is, all_zero_lem, writes_le, known_le}
 use Rattle.trace.proofs.Accept.{trace_is}
 use Rattle.trace.proofs.Sizes.{length_front, length_header, length_records, length_encode}
@@ -58,7 +58,7 @@ unfolding header_bytes settings_bytes
 header_read High t n w rest = record { is_edition = refl; is_zero₁ = refl; is_count = refl; is_offset = refl; is_writes = refl; is_long = refl; is_zero₂ = refl }
 header_read Low t n w rest = record { is_edition = refl; is_zero₁ = refl; is_count = refl; is_offset = refl; is_writes = refl; is_long = refl; is_zero₂ = refl }
 
-mark_read : (o : Order) (t : Settings) (n w : ℕ) (rest : List ℕ) → mark_of (header_bytes o t n w ++ rest) ≡ Known o
+mark_read : (o : Order) (t : Settings) (n w : ℕ) (rest : List ℕ) → mark_of (header_bytes o t n w ++ rest) ≡ Some o
 unfolding header_bytes
 mark_read High t n w rest = refl
 mark_read Low t n w rest = refl
@@ -69,7 +69,7 @@ module _ (t : Trace) (ok : Proper t) where
   unfolding encode
   head = header_read t.order t.settings (length t.pages) (writes_in t.kinds) (records_to t.order t.pages t.kinds (length t.pages))
 
-  mark : mark_of (encode t) ≡ Known t.order
+  mark : mark_of (encode t) ≡ Some t.order
   unfolding encode
   mark = mark_read t.order t.settings (length t.pages) (writes_in t.kinds) (records_to t.order t.pages t.kinds (length t.pages))
 

@@ -1,16 +1,12 @@
 -- Trace checks run 1 to 8 in that order; what the checker and the reader answer.
-use Rattle.std.specs.Prelude.{ℕ, zero, suc, List, Bool, ◌&&◌, ◌≡◌, length, take, eqb, leb}
+use Rattle.std.specs.Prelude.{ℕ, zero, suc, List, Option, Some, None, Bool, ◌&&◌, ◌≡◌, length, take, eqb, leb}
 use Rattle.word.specs.declared.Order.{Order}
 use Rattle.word.specs.declared.Order.TheVariants.{High}
 use Rattle.refusal.specs.Refusals.{demand, or_else, stored, too_short, unknown_mark, other_edition, too_many, wrong_length, bad_field, wrong_writes, out_of_range, no_room}
 use Rattle.settings.specs.Settings.{in_range}
 use Rattle.trace.specs.Layout.{Trace, trace_from, edition, record_limit, header_length, file_length, mark_of, edition_at, first_zero_at, count_at, offset_at, writes_at, length_at, settings_in, last_zero_at, kinds_at, zeros_at, known_kinds, writes_in, all_zero, trace_at}
 use Rattle.trace.specs.Encode.{encode, Proper}
-use Rattle.trace.specs.declared.Mark.{Mark}
-use Rattle.trace.specs.declared.Mark.TheVariants.{Known, Unknown}
 use Rattle.trace.specs.declared.Summary.{Summary}
-use Rattle.trace.specs.declared.Checked.{Checked}
-use Rattle.trace.specs.declared.Checked.TheVariants.{Refused, Accepted}
 
 -- offset, length field and actual length
 abbrev pub lengths_right : Order → List ℕ → Bool
@@ -40,18 +36,18 @@ unfoldable pub refusal_in : Order → List ℕ → ℕ
 refusal_in o s = or_else (layout_refusal o s) (content_refusal o s)
 
 -- refusals 2 to 8
-abbrev pub refusal_marked : Mark → List ℕ → ℕ
-refusal_marked (Known o) s = refusal_in o s
-refusal_marked Unknown s = unknown_mark
+abbrev pub refusal_marked : Option Order → List ℕ → ℕ
+refusal_marked (Some o) s = refusal_in o s
+refusal_marked None s = unknown_mark
 
 -- the refusal of a trace, 1 to 8, or 0
 unfoldable pub refusal_of : List ℕ → ℕ
 refusal_of s = demand (leb header_length (length s)) too_short (refusal_marked (mark_of s) s)
 
 -- the order that a mark names; without one it has no meaning
-abbrev pub order_marked : Mark → Order
-order_marked (Known o) = o
-order_marked Unknown = High
+abbrev pub order_marked : Option Order → Order
+order_marked (Some o) = o
+order_marked None = High
 
 -- the trace that bytes hold; where they are refused it has no meaning
 unfoldable pub trace_of : List ℕ → Trace
@@ -74,6 +70,11 @@ decode s = outcome (refusal_of s) (trace_of s)
 -- settings, order and record count of a trace
 abbrev pub summary_of : Trace → Summary
 summary_of t = record { settings = t.settings; order = t.order; count = length t.pages }
+
+-- an answer of the checker: refused by a number, or accepted with a summary
+pub data Checked : Type 0 where
+  Refused : ℕ → Checked
+  Accepted : Summary → Checked
 
 -- accepted with settings, order and record count, or refused
 abbrev pub checked : Outcome → Checked

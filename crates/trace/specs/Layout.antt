@@ -1,13 +1,11 @@
 -- Trace layout, edition 1: a header of counts and offsets, 48 bytes, then records of 8 bytes.
-use Rattle.std.specs.Prelude.{ℕ, zero, suc, ◌+◌, ◌*◌, List, [], ◌∷◌, ◌++◌, Bool, true, ◌&&◌, get_or, eqb, leb}
+use Rattle.std.specs.Prelude.{ℕ, zero, suc, ◌+◌, ◌*◌, List, [], ◌∷◌, ◌++◌, Option, Some, None, Bool, true, ◌&&◌, get_or, eqb, leb}
 use Rattle.word.specs.Number.{number_at}
 use Rattle.word.specs.declared.Order.{Order}
 use Rattle.word.specs.declared.Order.TheVariants.{High, Low}
 use Rattle.search.specs.Search.{pick, one_if}
 use Rattle.settings.specs.Settings.{settings_at}
 use Rattle.settings.specs.declared.Settings.{Settings}
-use Rattle.trace.specs.declared.Mark.{Mark}
-use Rattle.trace.specs.declared.Mark.TheVariants.{Known, Unknown}
 use Rattle.trace.specs.declared.Record.{Record}
 
 -- the edition
@@ -42,9 +40,9 @@ mark_low = 4 ∷ 3 ∷ 2 ∷ 1 ∷ []
 abbrev pub begins : List ℕ → List ℕ → Bool
 begins s m = eqb (get_or s 0 0) (get_or m 0 0) && (eqb (get_or s 1 0) (get_or m 1 0) && (eqb (get_or s 2 0) (get_or m 2 0) && eqb (get_or s 3 0) (get_or m 3 0)))
 
--- at 0, 4 bytes: the mark
-abbrev pub mark_of : List ℕ → Mark
-mark_of s = pick (begins s mark_high) (Known High) (pick (begins s mark_low) (Known Low) Unknown)
+-- at 0, 4 bytes: the mark, which names an order, if it is one of the two
+abbrev pub mark_of : List ℕ → Option Order
+mark_of s = pick (begins s mark_high) (Some High) (pick (begins s mark_low) (Some Low) None)
 
 -- at 4, 2 bytes: edition
 abbrev pub edition_at : Order → List ℕ → ℕ

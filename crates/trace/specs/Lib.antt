@@ -1,3 +1,4 @@
 pub mod Layout
 pub mod Encode
 pub mod Check
+pub mod Answer

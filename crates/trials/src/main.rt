@@ -4,10 +4,11 @@
 
 ghost use Rattle.std.specs.Prelude.{◌≡◌, ◌+◌, ◌*◌, ◌≤◌, ◌<◌, length};
 
+use refusal::Refusal;
 use lines::{read_full, say, say_number, say_order};
 use settings::Settings;
 use std::io::{Read, Result};
-use trace::Checked;
+use trace::Summary;
 use word::{Order, Word};
 
 // The most cases of a bundle.
@@ -24,13 +25,13 @@ fn say_settings(out: &impl Print, s: Settings) -> Result<()> {
     say_number(out, s.seed as u64)
 }
 
-fn say_checked(out: &impl Print, c: Checked) -> Result<()> {
+fn say_checked(out: &impl Print, c: std::result::Result<Summary, Refusal>) -> Result<()> {
     match c {
-        Checked::Refused(r) => {
+        Err(r) => {
             say(out, b" refused")?;
-            say_number(out, r as u64)
+            say_number(out, u32::from(r) as u64)
         }
-        Checked::Accepted(h) => {
+        Ok(h) => {
             say(out, b" accepted")?;
             let order = h.order;
             say_order(out, order)?;

@@ -2,5 +2,5 @@ use mathlib.Core.Path.{sym, ◌∙◌}
 use Rattle.host.proofs.Laws.{host_refused}
 use Rattle.host.proofs.hitchyawl_counts.Goals as goal
 
-pub returns-in-Refused : goal.returns-in-Refused
-returns-in-Refused c = host_refused _ _ _ (sym c.check-c.ensures.value ∙ c.in-Refused.is)
+pub returns-in-Err : goal.returns-in-Err
+returns-in-Err c = rw c.from.ensures (host_refused _ _ _ (sym c.in-Err.ensures.value))

@@ -8,10 +8,10 @@ pub returns-then-bytes-lt-HEADER_LENGTH : goal.returns-then-bytes-lt-HEADER_LENG
 unfolding held_refusal
 returns-then-bytes-lt-HEADER_LENGTH c = rw (lt-leb image_header (length c.args.bytes.now) c.if-bytes-lt-HEADER_LENGTH.true)
 
-pub returns-in-Known : goal.returns-in-Known
+pub returns-in-Some : goal.returns-in-Some
 unfolding held_refusal
-returns-in-Known c = rw (le-leb _ _ c.if-bytes-lt-HEADER_LENGTH.false, ← c.mark_of-m.ensures, c.in-Known.is) c.held_refusal_in.ensures
+returns-in-Some c = rw (le-leb _ _ c.if-bytes-lt-HEADER_LENGTH.false, ← c.in-Some.ensures) c.held_refusal_in.ensures
 
-pub returns-in-Unknown : goal.returns-in-Unknown
+pub returns-in-None : goal.returns-in-None
 unfolding held_refusal
-returns-in-Unknown c = rw (le-leb _ _ c.if-bytes-lt-HEADER_LENGTH.false, ← c.mark_of-m.ensures, c.in-Unknown.is)
+returns-in-None c = rw (le-leb _ _ c.if-bytes-lt-HEADER_LENGTH.false, ← c.in-None.ensures)

@@ -6,10 +6,10 @@ pub returns-then-bytes-lt4 : goal.returns-then-bytes-lt4
 unfolding order_of
 returns-then-bytes-lt4 c = rw (no_mark c.args.bytes.now c.if-bytes-lt4.true)
 
-pub returns-in-Known : goal.returns-in-Known
+pub returns-in-Some : goal.returns-in-Some
 unfolding order_of
-returns-in-Known c = rw (← c.mark_of-m.ensures, c.in-Known.is)
+returns-in-Some c = rw (← c.in-Some.ensures)
 
-pub returns-in-Unknown : goal.returns-in-Unknown
+pub returns-in-None : goal.returns-in-None
 unfolding order_of
-returns-in-Unknown c = rw (← c.mark_of-m.ensures, c.in-Unknown.is)
+returns-in-None c = rw (← c.in-None.ensures)

@@ -7,7 +7,7 @@ pub returns-then-not-may_begin : goal.returns-then-not-may_begin
 returns-then-not-may_begin c =
     counts_refused _ _ _ _ _ (not_begun _ _ _ (sym c.may_begin.ensures ∙ c.if-not-may_begin.true)) (λ e. omega arith) c.ending.ensures
 
-pub returns-in-Refused : goal.returns-in-Refused
-returns-in-Refused c =
-    let f = trace_refused _ _ _ _ (sym c.may_begin.ensures ∙ c.if-not-may_begin.false) (sym c.check-c.ensures.value ∙ c.in-Refused.is) in
-    counts_refused _ _ _ _ _ f.0 f.1 c.ending-in-Refused.ensures
+pub returns-in-Err : goal.returns-in-Err
+returns-in-Err c =
+    let f = trace_refused _ _ _ _ (sym c.may_begin.ensures ∙ c.if-not-may_begin.false) (sym c.in-Err.ensures.value) in
+    counts_refused _ _ _ _ _ f.0 f.1 (rw c.from.ensures at c.ending-in-Err.ensures)

@@ -9,8 +9,8 @@ returns-then-not-begins c =
     let e = not_begun _ _ _ (sym c.may_begin-begins.ensures ∙ c.if-not-begins.true) in
     replay_refused _ _ _ _ _ _ _ (replay_first a.pool a.tally a.bytes.now a.rows.now a.written.now _ e (λ e. omega arith)) (λ e. omega arith) c.ending.ensures
 
-pub returns-in-Refused : goal.returns-in-Refused
-returns-in-Refused c =
+pub returns-in-Err : goal.returns-in-Err
+returns-in-Err c =
     let a = c.args in
-    let f = trace_refused _ _ _ _ (sym c.may_begin-begins.ensures ∙ c.if-not-begins.false) (sym c.check-c.ensures.value ∙ c.in-Refused.is) in
-    replay_refused _ _ _ _ _ _ _ (replay_first a.pool a.tally a.bytes.now a.rows.now a.written.now _ f.0 f.1) f.1 c.ending-in-Refused.ensures
+    let f = trace_refused _ _ _ _ (sym c.may_begin-begins.ensures ∙ c.if-not-begins.false) (sym c.in-Err.ensures.value) in
+    replay_refused _ _ _ _ _ _ _ (replay_first a.pool a.tally a.bytes.now a.rows.now a.written.now _ f.0 f.1) f.1 (rw c.from.ensures at c.ending-in-Err.ensures)

@@ -12,18 +12,18 @@ unfolding check_of decode refusal_of
 returns-then-bytes-lt-HEADER_LENGTH-clause-value c =
     rw (lt-leb header_length (length c.args.bytes.now) c.if-bytes-lt-HEADER_LENGTH.true)
 
-pub returns-in-Known-clause-value : goal.returns-in-Known-clause-value
+pub returns-in-Some-clause-value : goal.returns-in-Some-clause-value
 unfolding check_of decode refusal_of trace_of
-returns-in-Known-clause-value c =
-    rw (le-leb header_length (length c.args.bytes.now) c.if-bytes-lt-HEADER_LENGTH.false, ← c.mark_of-m.ensures, c.in-Known.is) c.checked_in.ensures
+returns-in-Some-clause-value c =
+    rw (le-leb header_length (length c.args.bytes.now) c.if-bytes-lt-HEADER_LENGTH.false, ← c.in-Some.ensures) c.summary_in.ensures
 
-pub returns-in-Known-clause-promises : goal.returns-in-Known-clause-promises
-returns-in-Known-clause-promises c =
+pub returns-in-Some-clause-promises : goal.returns-in-Some-clause-promises
+returns-in-Some-clause-promises c =
     let s = c.args.bytes.now in
     let bs : Bytes s = bytes_of_lem s (λ i. let f = c.type_inv.bytes i in omega arith) in
-    (with_promise s _ bs (returns-in-Known-clause-value c)).1
+    (with_promise s _ bs (returns-in-Some-clause-value c)).1
 
-pub returns-in-Unknown-clause-value : goal.returns-in-Unknown-clause-value
+pub returns-in-None-clause-value : goal.returns-in-None-clause-value
 unfolding check_of decode refusal_of trace_of
-returns-in-Unknown-clause-value c =
-    rw (le-leb header_length (length c.args.bytes.now) c.if-bytes-lt-HEADER_LENGTH.false, ← c.mark_of-m.ensures, c.in-Unknown.is)
+returns-in-None-clause-value c =
+    rw (le-leb header_length (length c.args.bytes.now) c.if-bytes-lt-HEADER_LENGTH.false, ← c.in-None.ensures)

@@ -1,14 +1,14 @@
+use Rattle.refusal.proofs.Laws.{passed_on}
 use Rattle.trace.proofs.Reading.{read_whole, read_no_room}
 use Rattle.trace.proofs.read_accepted.Goals as goal
 
-pub returns-then-n-pages : goal.returns-then-n-pages
-returns-then-n-pages c =
-    let w = c in
-    let f = w in
-    let b = f in
-    read_whole b.args.bytes.now b.args.pages.now b.args.kinds.now b.args.summary b.requires _ _ f.if-n-pages.true w.read_records.ensures.pages_after w.read_records.ensures.kinds_after
+pub returns-in_err-demand : goal.returns-in_err-demand
+returns-in_err-demand c =
+    let a = c.args in
+    let met = c.in_err-demand.ensures.first in
+    rw (passed_on _ _ c.from_residual.ensures, met.1) (read_no_room a.bytes.now a.pages.now a.kinds.now a.summary c.requires met.0)
 
 pub returns : goal.returns
 returns c =
-    let b = c in
-    read_no_room b.args.bytes.now b.args.pages.now b.args.kinds.now b.args.summary b.requires c.if-n-pages.false
+    let a = c.args in
+    read_whole a.bytes.now a.pages.now a.kinds.now a.summary c.requires _ _ c.in_ok-demand.ensures.first c.read_records.ensures.pages_after c.read_records.ensures.kinds_after

@@ -16,25 +16,24 @@ loop-i-preserved c =
     let t = trace_of a.bytes.now in
     let page : ℕ → ℕ = λ j. (record_in t j).page in
     let kind : ℕ → ℕ = λ j. (record_in t j).kind in (
-      omega arith,
+      simp length-set l.loop-i.invariant.0,
       simp length-set l.loop-i.invariant.1,
-      simp length-set l.loop-i.invariant.2,
-      fill_more page a.pages.now l.loop-i.pages l.loop-i.i c.record_at-record.result.page l.loop-i.invariant.3 (ap (λ (r : Record). r.page) c.record_at-record.ensures),
-      fill_more kind a.kinds.now l.loop-i.kinds l.loop-i.i c.record_at-record.result.kind l.loop-i.invariant.4 (ap (λ (r : Record). r.kind) c.record_at-record.ensures),
+      fill_more page a.pages.now l.loop-i.pages l.loop-i.i c.record_at-record.result.page l.loop-i.invariant.2 (ap (λ (r : Record). r.page) c.record_at-record.ensures),
+      fill_more kind a.kinds.now l.loop-i.kinds l.loop-i.i c.record_at-record.result.kind l.loop-i.invariant.3 (ap (λ (r : Record). r.kind) c.record_at-record.ensures),
     )
 
 pub returns-clause-pages_after : goal.returns-clause-pages_after
 returns-clause-pages_after c =
     let t = trace_of c.args.bytes.now in
     let n = counts_are c.args.bytes.now c.args.summary c.requires.0 in
-    let e : c.loop-i.i ≡ c.args.summary.count = omega arith in
+    let all : c.loop-i.i ≡ c.args.summary.count = omega arith in
     let p = up_to_is (λ (j : ℕ). (record_in t j).page) t.pages (λ i lt. refl) in
-    c.loop-i.invariant.3 ∙ rw (e, ← n.0, p)
+    c.loop-i.invariant.2 ∙ rw (all, ← n.0, p)
 
 pub returns-clause-kinds_after : goal.returns-clause-kinds_after
 returns-clause-kinds_after c =
     let t = trace_of c.args.bytes.now in
     let n = counts_are c.args.bytes.now c.args.summary c.requires.0 in
-    let e : c.loop-i.i ≡ c.args.summary.count = omega arith in
+    let all : c.loop-i.i ≡ c.args.summary.count = omega arith in
     let k = up_to_is (λ (j : ℕ). (record_in t j).kind) t.kinds (λ i lt. refl) in
-    c.loop-i.invariant.4 ∙ rw (e, ← n.1, k)
+    c.loop-i.invariant.3 ∙ rw (all, ← n.1, k)

@@ -7,9 +7,6 @@ use Rattle.trace.specs.Check.{trace_of}
 use Rattle.trace.proofs.read_records.Given as goal
 
 abbrev pub invariant-loop-i : goal.invariant-loop-i
-invariant-loop-i l = (l.i ≤ l.n) × (length l.pages ≡ length l.initial.pages) × (length l.kinds ≡ length l.initial.kinds)
+invariant-loop-i l = (length l.pages ≡ length l.initial.pages) × (length l.kinds ≡ length l.initial.kinds)
     × (l.pages ≡ sets l.initial.pages 0 (up_to (λ (j : ℕ). (record_in (trace_of l.bytes) j).page) l.i))
     × (l.kinds ≡ sets l.initial.kinds 0 (up_to (λ (j : ℕ). (record_in (trace_of l.bytes) j).kind) l.i))
-
-abbrev pub decreases-loop-i : goal.decreases-loop-i
-decreases-loop-i l = l.n - l.i
