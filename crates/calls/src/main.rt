@@ -262,7 +262,7 @@ fn try_pool(
             order_of(c.low_first),
             cut(c.places, BYTE_ROOM),
         ),
-        2 => put_line(out, text, at, b"check", pool::check(pool)),
+        2 => put_line(out, text, at, b"check", refusal::answer_of(pool::check(&pool))),
         3 => try_step(out, text, at, pool, c, places),
         4 => try_replay(
             out,

@@ -17,9 +17,7 @@ pub fn counts(bytes: &[u8], summary: Summary) -> Tally
     if summary.count == 0 {
         return tally::zero();
     }
-    let settings = summary.settings;
-    let opened = pool::fresh(settings);
-    let fresh = opened.pool;
+    let fresh = pool::empty(summary.settings);
     let ended = replay::count(fresh, tally::zero(), bytes, summary);
     ended.tally
 }

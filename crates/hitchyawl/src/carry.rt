@@ -121,8 +121,8 @@ fn replay_from(rt: &HostRuntime, request: Request) -> Status {
 // Where no image is named any pool will do: it is not looked at.
 pub fn replay(rt: &HostRuntime, request: Request) -> Status {
     if request.from == 0 {
-        let none = pool::fresh(settings::one_frame());
-        return replay_trace(rt, request, none.pool);
+        let none = pool::empty(settings::one_frame());
+        return replay_trace(rt, request, none);
     }
     replay_from(rt, request)
 }

@@ -176,11 +176,9 @@ fn pool_to(bytes: &[u8], order: Order, used: usize) -> Pool
 fn refused(r: u32) -> Opened
     ensures { result ≡ opened r (fresh_pool one_frame) }
 {
-    let least = pool::fresh(settings::one_frame());
-    let small = least.pool;
     Opened {
         refusal: r,
-        pool: small,
+        pool: pool::empty(settings::one_frame()),
     }
 }
 
@@ -210,7 +208,7 @@ pub fn read(bytes: &[u8]) -> Opened
         return found;
     }
     let whole = found.pool;
-    let unsound = pool::check(whole);
+    let unsound = refusal::answer_of(pool::check(&whole));
     if unsound != 0 {
         return refused(unsound);
     }
@@ -303,7 +301,7 @@ fn put_image(p: Pool, order: Order, used: u32, out: &mut [u8])
 pub fn write(pool: Pool, order: Order, out: &mut [u8]) -> u32
     ensures { SavedTo pool order out.old result out.new }
 {
-    let r = pool::check(pool);
+    let r = refusal::answer_of(pool::check(&pool));
     if r != 0 {
         return r;
     }

@@ -39,8 +39,7 @@ fn count_of(bytes: &[u8]) -> u32 {
 fn fresh_by(settings: Settings) -> Pool
     ensures { result ≡ (fresh_of settings).pool }
 {
-    let opened = pool::fresh(settings);
-    opened.pool
+    pool::fresh(settings).unwrap_or_else(|_| pool::empty(settings::one_frame()))
 }
 
 // A fresh pool by a trace's settings. For a bad trace any pool will do: a replay refuses the trace before it looks at the

@@ -5,3 +5,4 @@ pub mod Quiet
 pub mod Sizes
 pub mod Opening
 pub mod Epochs
+pub mod Listed

@@ -1,7 +1,9 @@
 -- The pool: what it holds, a fresh one, and the epoch.
-use Rattle.std.specs.Prelude.{ℕ, ◌/◌, Bool, false, List, get_or, set, replicate}
+use Rattle.std.specs.Prelude.{ℕ, ◌/◌, Bool, false, List, get_or, set, replicate, Result, Ok, Err}
 use Rattle.search.specs.Search.{pick}
 use Rattle.refusal.specs.Refusals.{out_of_range}
+use Rattle.refusal.specs.declared.Refusal.{Refusal}
+use Rattle.refusal.specs.Numbers.{number_of}
 use Rattle.settings.specs.declared.Settings.{Settings}
 use Rattle.settings.specs.Settings.{in_range, one_frame}
 use Rattle.pool.specs.declared.Frame.{Frame}
@@ -107,6 +109,11 @@ fresh_pool s = record {
 -- a refusal or 0, and a pool
 abbrev pub opened : ℕ → Pool → Opened
 opened r p = record { refusal = r; pool = p }
+
+-- what a call opened: a pool, or where it was refused the pool of one frame
+abbrev pub opened_by : Result Pool Refusal → Opened
+opened_by (Ok p) = opened 0 p
+opened_by (Err r) = opened (number_of r) (fresh_pool one_frame)
 
 -- a fresh pool refused by 8 comes back as that pool of one frame
 unfoldable pub fresh_of : Settings → Opened

@@ -36,7 +36,7 @@ pub struct Ended {
 fn may_begin(p: Pool, t: Tally) -> bool
     ensures { result ≡ may_begin p t }
 {
-    (pool::check(p) == 0) & tally::within(t)
+    pool::check(&p).is_ok() & tally::within(t)
 }
 
 // Refusals 14, 6 and 13 of a step, or 0.
@@ -64,8 +64,8 @@ pub fn step(pool: Pool, tally: Tally, page: u32, kind: u16, written: &mut [u32])
             tally: tally,
         };
     }
-    let h = table::head_of(pool);
-    let mut table = table::table_of(pool);
+    let h = table::head_of(&pool);
+    let mut table = table::table_of(&pool.frames);
     let mut access = pool.access;
     let mut write = pool.write;
     let e = effect::play(
@@ -128,8 +128,8 @@ fn run(
     ensures { RanInto pool tally bytes.now rows.old list.old result rows.new list.new }
 {
     let n = summary.count as usize;
-    let mut h = table::head_of(pool);
-    let mut table = table::table_of(pool);
+    let mut h = table::head_of(&pool);
+    let mut table = table::table_of(&pool.frames);
     let mut access = pool.access;
     let mut write = pool.write;
     let mut t = tally;
@@ -159,8 +159,8 @@ pub fn count(pool: Pool, tally: Tally, bytes: &[u8], summary: Summary) -> Ended
 {
     let n = summary.count as usize;
     let mut scratch = [0u32; 16];
-    let mut h = table::head_of(pool);
-    let mut table = table::table_of(pool);
+    let mut h = table::head_of(&pool);
+    let mut table = table::table_of(&pool.frames);
     let mut access = pool.access;
     let mut write = pool.write;
     let mut t = tally;

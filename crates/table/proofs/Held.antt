@@ -10,6 +10,7 @@ use native.Mathlib.Decide.{ℕ_discrete}
 use lib.ListN.{length, get_or, set, length-append, length-set, get_or-append}
 use lib.Seq.{get_or_at, ext_get_or, get_or-set_same, get_or-set_other}
 use lib.Dec.{eqb}
+use mir.Val.{bool_byte}
 use Rattle.search.specs.Search.{one_if}
 use Rattle.search.proofs.Least.{last_or_below}
 use Rattle.pool.specs.declared.Frame.{Frame}
@@ -54,6 +55,11 @@ unfolding frame_in
 others_held t vs c i j l m q =
     let o = other_frame i l vs t c j in
     rw (o 0 m q, o 1 m q, o 2 m q, o 3 m q, o 4 m q, o 5 m q, o 6 m q, o 7 m q)
+
+-- a test as the number that a cast makes of it
+pub bit_of : (b : Bool) → bool_byte b ≡ one_if b
+bit_of true = refl
+bit_of false = refl
 
 bit_back : (b : Bool) → eqb (one_if b) 1 ≡ b
 bit_back true = refl

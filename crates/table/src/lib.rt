@@ -8,6 +8,7 @@ ghost use Rattle.table.specs.Table.{table_length, frames_in, guess_place, guess_
 
 use pool::{Frame, Pool};
 use settings::Settings;
+use std::array;
 
 // Where the guesses begin: behind eight numbers to a frame.
 const GUESSES: usize = 1024;
@@ -27,12 +28,11 @@ pub struct Head {
 }
 
 // That of a pool.
-pub fn head_of(p: Pool) -> Head
-    ensures { result ≡ head_of p }
+pub fn head_of(p: &Pool) -> Head
+    ensures { result ≡ head_of p.now }
 {
-    let s = p.settings;
     Head {
-        settings: s,
+        settings: p.settings,
         k: p.k,
         hand: p.hand,
         sampler: p.sampler,
@@ -76,14 +76,14 @@ pub fn put(table: &mut [u32], i: usize, fr: Frame)
     requires { (i < 128) × (length table.old ≡ table_length) }
     ensures { frames_in table.new ≡ set (frames_in table.old) i fr }
 {
-    table[i] = search::one_if(fr.used);
+    table[i] = u32::from(fr.used);
     table[i + 128] = fr.page;
-    table[i + 256] = search::one_if(fr.dirty);
-    table[i + 384] = fr.pins as u32;
-    table[i + 512] = fr.count as u32;
+    table[i + 256] = u32::from(fr.dirty);
+    table[i + 384] = u32::from(fr.pins);
+    table[i + 512] = u32::from(fr.count);
     table[i + 640] = fr.last;
-    table[i + 768] = fr.accesses as u32;
-    table[i + 896] = fr.writes as u32;
+    table[i + 768] = u32::from(fr.accesses);
+    table[i + 896] = u32::from(fr.writes);
 }
 
 // Frame i gets another clock count.
@@ -91,7 +91,7 @@ pub fn put_count(table: &mut [u32], i: usize, n: u8)
     requires { (i < 128) × (length table.old ≡ table_length) }
     ensures { frames_in table.new ≡ set (frames_in table.old) i (with_count (frame_at (frames_in table.old) i) n) }
 {
-    table[i + 512] = n as u32;
+    table[i + 512] = u32::from(n);
 }
 
 // Frame i becomes clean.
@@ -117,28 +117,16 @@ pub fn note(table: &mut [u32], page: u32, i: usize)
     table[GUESSES + (page % 1024) as usize] = i as u32;
 }
 
-// Notes the page of frame i, where it is in use.
-fn note_used(table: &mut [u32], fr: Frame, i: usize)
-    requires { (i < 128) × (length table.old ≡ table_length) }
-    ensures { frames_in table.new ≡ frames_in table.old }
-{
-    if fr.used {
-        note(table, fr.page, i);
-        return;
-    }
-}
-
 // The table of a pool's frames, with the pages of those in use noted.
-pub fn table_of(p: Pool) -> Table
-    ensures { frames_in result ≡ p.frames }
+pub fn table_of(frames: &[Frame; 128]) -> Table
+    ensures { frames_in result ≡ frames.now }
 {
-    let mut table = [0u32; LENGTH];
-    let mut i: usize = 0;
-    while i < 128 {
-        let fr = p.frames[i];
-        put(&mut table, i, fr);
-        note_used(&mut table, fr, i);
-        i += 1;
+    let mut table = [0; LENGTH];
+    for (i, fr) in frames.iter().enumerate() {
+        put(&mut table, i, *fr);
+        if fr.used {
+            note(&mut table, fr.page, i);
+        }
     }
     table
 }
@@ -147,30 +135,20 @@ pub fn table_of(p: Pool) -> Table
 fn frames_of(table: &Table) -> [Frame; 128]
     ensures { result ≡ frames_in table.now }
 {
-    // Any frame would do: each is stored anew.
-    let first = frame_at(table, 0);
-    let mut frames = [first; 128];
-    let mut i: usize = 0;
-    while i < 128 {
-        frames[i] = frame_at(table, i);
-        i += 1;
-    }
-    frames
+    array::from_fn(|i| frame_at(table, i))
 }
 
 // The pool of a head, a table of frames, and the logs.
 pub fn pool_of(h: Head, table: &Table, access: [u32; 1024], write: [u32; 512]) -> Pool
     ensures { result ≡ pool_in h table.now access write }
 {
-    let s = h.settings;
-    let frames = frames_of(table);
     Pool {
-        settings: s,
+        settings: h.settings,
         k: h.k,
         hand: h.hand,
         sampler: h.sampler,
-        frames: frames,
-        access: access,
-        write: write,
+        frames: frames_of(table),
+        access,
+        write,
     }
 }

@@ -7,8 +7,8 @@ returns-then-summary-eq0 c =
 
 pub count-ended-requires : goal.count-ended-requires
 count-ended-requires c =
-    fresh_ready _ _ _ _ c.requires c.fresh-opened.ensures c.zero-2.ensures
+    fresh_ready _ _ _ _ c.requires c.empty-fresh.ensures c.zero-2.ensures
 
 pub returns : goal.returns
 returns c =
-    fresh_counts_are _ _ _ _ c.requires c.fresh-opened.ensures c.zero-2.ensures _ c.count-ended.ensures
+    fresh_counts_are _ _ _ _ c.requires c.empty-fresh.ensures c.zero-2.ensures _ c.count-ended.ensures

@@ -1,24 +1,22 @@
-use mathlib.Core.Path.{◌≡◌, sym, ◌∙◌}
+use mathlib.Core.Path.{◌∙◌}
 use native.Mathlib.Omega.{arith}
-use Rattle.search.proofs.Every.{every_none, every_more}
-use Rattle.pool.proofs.Laws.{newer_first, newer_next, log_fails, log_ends}
+use lib.ListN.{length}
+use Rattle.std.proofs.lemmas.Iterator.{YieldsList-from_range}
+use Rattle.std.proofs.lemmas.Iterator.Search.{all_from_yields_List}
 use borrow.Author.Rules.{rules}
+use borrow.Author.Tests.{tests}
+use borrow.Author.Tests.{le-leb}
+use Rattle.pool.proofs.Listed.{all_numbers}
+use Rattle.pool.proofs.Laws.{place_in, log_long, log_short}
 use Rattle.pool.proofs.log_sound.Goals as goal
 
-pub loop-j-init : goal.loop-j-init
-loop-j-init c = (search rules, newer_first c.args.a.now c.args.at, every_none _)
+pub returns-then-n-log : goal.returns-then-n-log
+returns-then-n-log c =
+    let a = c.args.log.now in
+    let test = place_in a c.args.n c.args.epoch in
+    log_short _ _ _ _ (le-leb _ _ c.if-n-log.true)
+    (all_from_yields_List test _ _ _ c.all.ensures.ran (YieldsList-from_range 0 (length a) (length a) (cc) (omega arith)) (λ x b q k. search (rules, tests))
+    ∙ all_numbers test (length a))
 
-pub returns-then-not-place_sound : goal.returns-then-not-place_sound
-returns-then-not-place_sound c =
-    let v = c.loop-j.invariant in
-    log_fails _ _ _ _ _ _ c.loop-j-test.true (rw (← v.1) (sym c.place_sound.ensures ∙ c.if-not-place_sound.true))
-
-pub loop-j-preserved : goal.loop-j-preserved
-loop-j-preserved c =
-    let v = c.loop-j.invariant in
-    (search rules, newer_next c.args.a.now c.args.at c.loop-j.j, every_more _ _ v.2 (rw (← v.1) (sym c.place_sound.ensures ∙ c.if-not-place_sound.false)))
-
-pub returns : goal.returns
-returns c =
-    let e : c.loop-j.j ≡ c.args.room = omega arith in
-    log_ends _ _ _ _ _ (rw e at c.loop-j.invariant.2)
+pub returns-else-n-log : goal.returns-else-n-log
+returns-else-n-log c = log_long _ _ _ _ _ (search (rules, tests))

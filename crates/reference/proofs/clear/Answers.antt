@@ -1,16 +1,19 @@
-use mathlib.Core.Path.{◌≡◌}
+use mathlib.Core.Path.{◌≡◌, ap, sym, ◌∙◌}
+use Prim.Native.Nat.{ℕ, ◌+◌, ◌-◌}
 use native.Mathlib.Omega.{arith}
-use lib.ListN.{length-set}
-use Rattle.reference.proofs.Logs.{clear_more, clear_all, clear_rest}
+use lib.ListN.{length, take, drop, replicate, length-replicate, length-drop}
+use lib.Seq.{length-take-le}
+use Rattle.std.proofs.lemmas.Slice.{put_mid-paste}
+use Rattle.reference.proofs.Logs.{clear_all, clear_rest}
 use Rattle.reference.proofs.clear.Goals as goal
-
-pub loop-j-preserved : goal.loop-j-preserved
-loop-j-preserved c =
-    let l = c.loop-j in
-    (omega arith, simp length-set l.invariant.1, clear_more _ _ _ _ l.j l.invariant.2 c.requires c.loop-j-test.true)
 
 pub returns : goal.returns
 returns c =
-    let e : c.loop-j.j ≡ c.args.n = omega arith in
-    let all = clear_all _ _ _ _ (rw e at c.loop-j.invariant.2) in
-    (all, clear_rest _ _ _ c.requires _ all)
+    let a = c.args.a.now in
+    let at = c.args.at in
+    let n = c.args.n in
+    let width : at + n - at ≡ n = omega arith in
+    let long : length (take (at + n - at) (drop at a)) ≡ n = length-take-le (at + n - at) (drop at a) (rw (length-drop at a) (omega arith)) ∙ width in
+    let zeros = c.fill.ensures.after (λ y e. e) ∙ ap (λ (k : ℕ). replicate k 0) long in
+    let all = clear_all a at n _ (put_mid-paste at (at + n - at) a _ (replicate n 0) n zeros (sym width) (sym (length-replicate {A = ℕ} n 0))) in
+    (all, clear_rest a at n c.requires _ all)

@@ -6,4 +6,4 @@ returns-then-n-newest c = put_stays _ _ _ _ _ _ c.if-n-newest.true
 
 pub returns : goal.returns
 returns c =
-    put_goes _ _ _ _ _ _ _ _ c.if-n-newest.false c.requires.2 c.requires.3 c.longer_where.ensures c.put_front.ensures
+    put_goes _ _ _ _ _ _ _ _ c.if-n-newest.false c.requires.2 c.requires.3 c.longer.ensures c.put_front.ensures

@@ -1,4 +1,3 @@
-use Prim.Native.Nat.{◌-◌, ◌≤◌}
 use mathlib.Core.Path.{◌≡◌}
 use lib.ListN.{length}
 use Rattle.search.specs.Search.{pick}
@@ -7,7 +6,4 @@ use Rattle.reference.proofs.Logs.{carried}
 use Rattle.reference.proofs.put_front.Given as goal
 
 abbrev pub invariant-loop-j : goal.invariant-loop-j
-invariant-loop-j l = (l.j ≤ l.n) × (length l.a ≡ length l.initial.a) × (l.a ≡ pick l.on (put_front l.initial.a l.at l.j l.epoch) l.initial.a) × (l.carry ≡ carried l.initial.a l.at l.epoch l.j)
-
-abbrev pub decreases-loop-j : goal.decreases-loop-j
-decreases-loop-j l = l.n - l.j
+invariant-loop-j l = (length l.a ≡ length l.initial.a) × (l.a ≡ pick l.on (put_front l.initial.a l.at l.j l.epoch) l.initial.a) × (l.carry ≡ carried l.initial.a l.at l.epoch l.j)

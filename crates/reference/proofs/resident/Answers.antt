@@ -8,19 +8,18 @@ use Rattle.pool.specs.declared.Frame.{Frame}
 use Rattle.table.specs.Table.{frames_in}
 use Rattle.reference.specs.Search.{has}
 use Rattle.reference.proofs.Finding.{tells, among_all}
-use borrow.Author.Rules.{rules}
 use Rattle.reference.proofs.resident.Goals as goal
 
 pub loop-i-init : goal.loop-i-init
-loop-i-init c = (search rules, c.requires.few, seen_none _)
+loop-i-init c = (c.requires.few, seen_none _)
 
 pub loop-i-preserved : goal.loop-i-preserved
 loop-i-preserved c =
     let v = c.loop-i.invariant in
-    let told = tells _ _ c.args.page c.requires c.loop-i.i c.loop-i-test.true ∙ sym (ap (λ (fr : Frame). eqb fr.page c.args.page) c.frame_at-fr.ensures) in
-    (search rules, v.1, seen_more (has (frames_in c.args.table.now) c.args.page) _ _ _ told v.2)
+    let told = tells _ _ c.args.page c.requires c.loop-i.i c.loop-i-test.true ∙ sym (ap (λ (fr : Frame). eqb fr.page c.args.page) c.frame_at.ensures) in
+    (v.0, seen_more (has (frames_in c.args.table.now) c.args.page) _ _ _ told v.1)
 
 pub returns : goal.returns
 returns c =
     let e : c.loop-i.i ≡ c.args.n = omega arith in
-    rw e at c.loop-i.invariant.2 ∙ ap (λ (f : Option ℕ). is_found f) (among_all _ _ _ c.requires)
+    rw e at c.loop-i.invariant.1 ∙ ap (λ (f : Option ℕ). is_found f) (among_all _ _ _ c.requires)

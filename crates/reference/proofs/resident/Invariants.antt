@@ -1,4 +1,4 @@
-use Prim.Native.Nat.{◌-◌, ◌≤◌}
+use Prim.Native.Nat.{◌≤◌}
 use mathlib.Core.Path.{◌≡◌}
 use Rattle.search.specs.Search.{is_found, least_below, never}
 use Rattle.table.specs.Table.{frames_in}
@@ -6,7 +6,4 @@ use Rattle.reference.specs.Search.{has}
 use Rattle.reference.proofs.resident.Given as goal
 
 abbrev pub invariant-loop-i : goal.invariant-loop-i
-invariant-loop-i l = (l.i ≤ l.n) × (l.n ≤ 128) × (l.seen ≡ is_found (least_below (has (frames_in l.table) l.page) never l.i))
-
-abbrev pub decreases-loop-i : goal.decreases-loop-i
-decreases-loop-i l = l.n - l.i
+invariant-loop-i l = (l.n ≤ 128) × (l.seen ≡ is_found (least_below (has (frames_in l.table) l.page) never l.i))

@@ -1,7 +1,7 @@
 use Rattle.replay.specs.Calls.{may_begin}
-use Rattle.replay.proofs.Begins.{check_sound}
+use Rattle.replay.proofs.Begins.{passed_is}
 use Rattle.replay.proofs.may_begin.Goals as goal
 
 pub returns : goal.returns
 unfolding may_begin
-returns c = rw (c.check.ensures, check_sound c.args.p, c.within.ensures)
+returns c = rw (c.is_ok.ensures.value, passed_is c.args.p c.check.result c.check.ensures, c.within.ensures)

@@ -1,16 +1,17 @@
-use mathlib.Core.Path.{refl, ◌∙◌}
+use mathlib.Core.Path.{sym, ◌∙◌}
+use Prim.Native.Nat.{◌<◌}
+use lib.Seq.{ext_get_or}
 use native.Mathlib.Omega.{arith}
-use lib.ListN.{length-set}
-use Rattle.table.proofs.Held.{frames_long, filled_none, filled_more, filled_all}
 use borrow.Author.Rules.{rules}
+use borrow.Author.Tests.{tests}
+use Rattle.pool.specs.Pool.{frame_at, empty_frame}
+use Rattle.table.specs.Table.{frames_in}
+use Rattle.table.proofs.Held.{frames_long}
+use Rattle.table.proofs.Filling.{made_at}
 use Rattle.table.proofs.frames_of.Goals as goal
 
-pub loop-i-init : goal.loop-i-init
-loop-i-init c = (search rules, refl, filled_none _ _)
-
-pub loop-i-preserved : goal.loop-i-preserved
-loop-i-preserved c =
-    (search rules, length-set c.loop-i.frames _ _ ∙ c.loop-i.invariant.1, filled_more _ _ _ _ _ (rw c.loop-i.invariant.1 c.loop-i-test.true) c.loop-i.invariant.2 refl c.frame_at.ensures)
-
 pub returns : goal.returns
-returns c = let l = c.loop-i.invariant in filled_all _ _ _ l.1 (frames_long _ 128) (omega arith) l.2
+returns c =
+    let all = frames_in c.args.table.now in
+    ext_get_or empty_frame c.from_fn.result all (c.from_fn.ensures.items.long ∙ sym (frames_long _ 128))
+    (λ j l. let b : j < 128 = rw c.from_fn.ensures.items.long at l in made_at _ (frame_at all) _ (λ x y q k. search (rules, tests)) c.from_fn.result empty_frame 128 0 c.from_fn.ensures.items.each j (omega arith) (omega arith))

@@ -1,6 +1,0 @@
-use Rattle.pool.specs.Pool.{fresh_pool}
-use Rattle.pool.proofs.fresh_pool.Goals as goal
-
-pub returns : goal.returns
-unfolding fresh_pool
-returns c = rw c.empty_frame-frame.ensures
