@@ -4,7 +4,7 @@
 
 ghost use Rattle.std.specs.Prelude.{◌≡◌, false, ◌%◌, ◌<◌, length, set};
 ghost use Rattle.pool.specs.Pool.{frame_at, with_count, now_at, with_dirty};
-ghost use Rattle.table.specs.Table.{table_length, frames_in, guess_place, guess_in, head_of, pool_in};
+ghost use Rattle.table.specs.Table.{table_length, frames_in, guess_place, guess_in, pool_on};
 
 use pool::{Frame, Pool};
 use settings::Settings;
@@ -26,17 +26,13 @@ pub struct Head {
     pub sampler: u32,
 }
 
-// That of a pool.
-pub fn head_of(p: Pool) -> Head
-    ensures { result ≡ head_of p }
-{
-    let s = p.settings;
-    Head {
-        settings: s,
-        k: p.k,
-        hand: p.hand,
-        sampler: p.sampler,
-    }
+// A pool laid out to be worked on: head, table of frames, and logs, each changed where it stands.
+#[derive(Clone, Copy)]
+pub struct Bench {
+    pub head: Head,
+    pub table: Table,
+    pub access: [u32; 1024],
+    pub write: [u32; 512],
 }
 
 // Now: the epoch of the next reference.
@@ -158,19 +154,41 @@ fn frames_of(table: &Table) -> [Frame; 128]
     frames
 }
 
-// The pool of a head, a table of frames, and the logs.
-pub fn pool_of(h: Head, table: &Table, access: [u32; 1024], write: [u32; 512]) -> Pool
-    ensures { result ≡ pool_in h table.now access write }
+// A pool laid out.
+pub fn bench_of(p: Pool) -> Bench
+    ensures { pool_on result ≡ p }
 {
-    let s = h.settings;
-    let frames = frames_of(table);
+    let head = Head {
+        settings: p.settings,
+        k: p.k,
+        hand: p.hand,
+        sampler: p.sampler,
+    };
+    let table = table_of(p);
+    let access = p.access;
+    let write = p.write;
+    Bench {
+        head,
+        table,
+        access,
+        write,
+    }
+}
+
+// The pool that lies on a bench.
+pub fn pool_of(bench: &Bench) -> Pool
+    ensures { result ≡ pool_on bench.now }
+{
+    let frames = frames_of(&bench.table);
+    let access = bench.access;
+    let write = bench.write;
     Pool {
-        settings: s,
-        k: h.k,
-        hand: h.hand,
-        sampler: h.sampler,
-        frames: frames,
-        access: access,
-        write: write,
+        settings: bench.head.settings,
+        k: bench.head.k,
+        hand: bench.head.hand,
+        sampler: bench.head.sampler,
+        frames,
+        access,
+        write,
     }
 }
