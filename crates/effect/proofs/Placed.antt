@@ -10,17 +10,15 @@ use lib.Dec.{eqb}
 use Rattle.search.specs.Search.{pick}
 use Rattle.pool.specs.declared.Frame.{Frame}
 use Rattle.pool.specs.declared.Pool.{Pool}
-use Rattle.pool.specs.Pool.{empty_frame, frame_at, epoch_at, now_of, with_count, with_pins, with_frames}
+use Rattle.pool.specs.Pool.{empty_frame, frame_at, epoch_at, now_of, with_count, with_pins, with_k, with_frames, with_access, with_write}
 use Rattle.pool.proofs.Sizes.{Sized}
-use Rattle.table.specs.declared.Head.{Head}
-use Rattle.table.specs.Table.{head_of, pool_with}
 use Rattle.reference.specs.Logs.{cleared, length_with, log_with}
 use Rattle.reference.specs.Reference.{raised, new_frame, referred, hit_at, fetched_at, pinned_at, unpinned_at}
 use Rattle.tally.specs.declared.Row.{Row}
 use Rattle.tally.specs.Rows.{row, hit, miss_unused, miss_clean, miss_dirty, unpin_done}
 use Rattle.effect.specs.Record.{pin_limit, pins_at, pinned_where, filled}
 use Rattle.effect.specs.declared.Asked.{Asked}
-use Rattle.effect.specs.ForCode.{pins_with, hit_frame, fetched_frame, unpinned_frame, by_outcome, with_step, with_lengths, entered_at, hit_in, fetched_in, entered}
+use Rattle.effect.specs.ForCode.{pins_with, hit_frame, fetched_frame, unpinned_frame, by_outcome, with_lengths, entered_at, hit_in, fetched_in, entered}
 
 module _ (p : Pool) (z : Sized p) (i : ℕ) (l : i < 128) where
   own : (g : Frame) → frame_at (set p.frames i g) i ≡ g
@@ -121,38 +119,29 @@ module _ (p q : Pool) (w : Row) (page : ℕ) (asks : Asked) where
 pub entered_none : (p : Pool) (n page : ℕ) (asks : Asked) → 5 ≤ n → entered p (row n 0 0 0) page asks ≡ p
 entered_none p n page asks l = sym (way_none p p (row n 0 0 0) page asks l refl)
 
--- and none changes the settings
-pub entered_settings : (p : Pool) (w : Row) (page : ℕ) (asks : Asked) → (entered p w page asks).settings ≡ p.settings
-unfolding entered hit_in fetched_in unpinned_at
-entered_settings p w page asks = go w.outcome
-  where
-    go : (n : ℕ) → (by_outcome n (hit_in p w.frame asks.write asks.pin) (fetched_in p w.frame page asks.write asks.pin) (unpinned_at p w.frame) p).settings ≡ p.settings
-    go zero = refl
-    go (suc zero) = refl
-    go (suc (suc zero)) = refl
-    go (suc (suc (suc zero))) = refl
-    go (suc (suc (suc (suc zero)))) = refl
-    go (suc (suc (suc (suc (suc n))))) = refl
-
 -- nothing to take off
 pub unpinned_none : (fr : Frame) → fr.pins ≤ 0 → fr ≡ unpinned_frame fr
 unpinned_none fr l = let e : fr.pins ≡ fr.pins - 1 = omega arith in ap (with_pins fr) e
 
 -- what the code leaves of a pool: a reference in frame i, with its logs as they are or emptied
-module _ (p : Pool) (i : ℕ) (write pin : Bool) (epoch : ℕ) (g : Head) (e : epoch ≡ epoch_at p.settings p.k) (q : g ≡ with_step (head_of p)) where
+module _ (p : Pool) (i : ℕ) (write pin : Bool) (epoch : ℕ) (e : epoch ≡ epoch_at p.settings p.k) where
+  -- the pool with one reference more
+  abbrev stepped : List Frame → List ℕ → List ℕ → Pool
+  stepped fs a b = with_write (with_access (with_frames (with_k p (p.k + 1)) fs) a) b
+
   pub hit_left : (old fr : Frame) (n m : ℕ) (a b : List ℕ) (fs : List Frame) → old ≡ frame_at p.frames i → fr ≡ hit_frame old write pin p.settings.cap p.k
       → (n ≡ length_with p.access (i * 8) 8 fr.accesses epoch true) × (a ≡ log_with p.access (i * 8) 8 fr.accesses epoch true)
       → (m ≡ length_with p.write (i * 4) 4 fr.writes epoch write) × (b ≡ log_with p.write (i * 4) 4 fr.writes epoch write)
-      → fs ≡ set p.frames i (with_lengths fr n m) → pool_with g fs a b ≡ hit_in p i write pin
+      → fs ≡ set p.frames i (with_lengths fr n m) → stepped fs a b ≡ hit_in p i write pin
   unfolding hit_in now_of
-  hit_left old fr n m a b fs d h x y f = rw (q, f, x.0, x.1, y.0, y.1, h, d, e)
+  hit_left old fr n m a b fs d h x y f = rw (f, x.0, x.1, y.0, y.1, h, d, e)
 
   pub fetch_left : (fr : Frame) (page n m : ℕ) (c d a b : List ℕ) (fs : List Frame) → fr ≡ fetched_frame page write pin p.k → c ≡ cleared p.access (i * 8) 8 → d ≡ cleared p.write (i * 4) 4
       → (n ≡ length_with c (i * 8) 8 0 epoch true) × (a ≡ log_with c (i * 8) 8 0 epoch true)
       → (m ≡ length_with d (i * 4) 4 0 epoch write) × (b ≡ log_with d (i * 4) 4 0 epoch write)
-      → fs ≡ set p.frames i (with_lengths fr n m) → pool_with g fs a b ≡ fetched_in p i page write pin
+      → fs ≡ set p.frames i (with_lengths fr n m) → stepped fs a b ≡ fetched_in p i page write pin
   unfolding fetched_in now_of
-  fetch_left fr page n m c d a b fs h u v x y f = rw (q, f, x.0, x.1, y.0, y.1, h, u, v, e)
+  fetch_left fr page n m c d a b fs h u v x y f = rw (f, x.0, x.1, y.0, y.1, h, u, v, e)
 
 -- a frame that is hit has its logs' lengths
 module _ (fs : List Frame) (i : ℕ) (write pin : Bool) (cap k : ℕ) (old fr : Frame) (d : old ≡ frame_at fs i) (h : fr ≡ hit_frame old write pin cap k) where

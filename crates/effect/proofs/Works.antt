@@ -19,8 +19,8 @@ use Rattle.pool.specs.Pool.{frame_at, with_frames}
 use Rattle.pool.specs.Sound.{sound_pool}
 use Rattle.pool.proofs.Sound.{Sound, told, made}
 use Rattle.pool.proofs.Sizes.{Sized}
-use Rattle.table.specs.declared.Head.{Head}
-use Rattle.table.specs.Table.{head_of, pool_in}
+use Rattle.table.specs.declared.Bench.{Bench}
+use Rattle.table.specs.Table.{pool_on}
 use Rattle.table.proofs.Held.{frames_long}
 use Rattle.reference.specs.Search.{find_page, lowest_unused}
 use Rattle.reference.specs.Reference.{hit_at, unpinned_at}
@@ -33,11 +33,10 @@ use Rattle.tally.specs.declared.Row.{Row}
 use Rattle.tally.specs.Rows.{row, hit, miss_unused, miss_clean, miss_dirty, unpin_done, refused_row}
 use Rattle.effect.specs.Record.{Did, did, pin_limit, pins_at, refusal, pinned_where, filled, hit_of, leaving_of, eviction_of, miss_of, reference_of, unpin_of, record_of}
 use Rattle.effect.specs.declared.Asked.{Asked}
-use Rattle.effect.specs.declared.Worked.{Worked}
-use Rattle.effect.specs.ForCode.{Effect, Leaves, Plays, Enterable, LogsEnd, Entering, RoomAsked, RoomWhere, settled_hit, settled_miss, settled_reference, settled_unpin, asked_by, settled_by, place_of, room_row, room_pages, room_frames, roomed, wanted, row_where, pages_where, pool_where, moved_to, entered}
+use Rattle.effect.specs.ForCode.{Effect, Leaves, Plays, Enterable, LogsEnd, Entering, RoomAsked, RoomWhere, settled_hit, settled_miss, settled_reference, settled_unpin, asked_by, settled_by, place_of, room_row, room_pages, room_frames, roomed, wanted, row_where, pages_where, pool_where, entered}
 use Rattle.effect.proofs.Settled.{settled_of}
 use Rattle.effect.proofs.Ways.{found_few, unused_few, at_limit, resident, absent, free, full, victim, no_victim, pins_full_lem, pins_free, unpin_absent, unpin_none, unpin_one}
-use Rattle.effect.proofs.Placed.{entered_hit, entered_free, entered_left, entered_unpin, entered_none, entered_settings}
+use Rattle.effect.proofs.Placed.{entered_hit, entered_free, entered_left, entered_unpin, entered_none}
 
 -- a pool, a row and the pages written, such that entering the row gives what was done
 pub record Works (d : Did) (q : Pool) (w : Row) (pages : List ℕ) (page : ℕ) (asks : Asked) : Type 0 where
@@ -175,13 +174,9 @@ enterable p i s l =
 pub logs_end : (p : Pool) (i : ℕ) → Sound p → i < 128 → LogsEnd p i
 logs_end p i s l = record { access = (s.frame i l).access.rest; write = (s.frame i l).write.rest }
 
--- a head, a table and logs make a pool of the right size
-pub sized_in : (h : Head) (t access write : List ℕ) → length access ≡ 1024 → length write ≡ 512 → Sized (pool_in h t access write)
-sized_in h t access write a b = record { frames = frames_long t 128; access = a; write = b }
-
--- a head with the same settings that moved on
-moved_on : (p : Pool) (g : Head) → g.settings ≡ p.settings → moved_to (head_of p) g ≡ g
-moved_on p g e = rw (← e)
+-- the pool on a bench with all its log places is of the right size
+pub sized_on : (b : Bench) → length b.access ≡ 1024 → length b.write ≡ 512 → Sized (pool_on b)
+sized_on b x y = record { frames = frames_long b.table 128; access = x; write = y }
 
 -- a victim is wanted of no hit
 no_hit : (p : Pool) → (room_row p).outcome ≡ hit → ⊥
@@ -202,33 +197,23 @@ module _ (p : Pool) (s : sound_pool p ≡ true) (z : Sized p) (page kind at : �
   }
 
   -- and once there is room it may be entered
-  module _ (r : Worked) (t before after : List ℕ) (m : RoomWhere p w at r t before after) where
-    abbrev q : Pool
-    q = pool_in r.head t p.access p.write
-
-    pub room_enterable : Entering q r.row
+  module _ (r : Row) (b : Bench) (before after : List ℕ) (m : RoomWhere p w at r b before after) where
+    pub room_enterable : Entering (pool_on b) r
     room_enterable = rw m.pool (go (wanted p w) refl)
       where
-        go : (b : Bool) → wanted p w ≡ b → Entering (pick b (roomed p) p) r.row
+        go : (b : Bool) → wanted p w ≡ b → Entering (pick b (roomed p) p) r
         go true b =
-            let a = enterable p r.row.frame (told p s) m.frame in (
+            let a = enterable p r.frame (told p s) m.frame in (
               record { frame = a.frame; span = a.span; cap = a.cap; few = a.few },
               λ h. absurd (no_hit p (sym (ap (λ (x : Row). x.outcome) (m.row ∙ ap (λ (c : Bool). pick c (room_row p) w) b)) ∙ h)),
             )
-        go false b = (enterable p r.row.frame (told p s) m.frame, λ _. logs_end p r.row.frame (told p s) m.frame)
-
-    room_settings : (b : Bool) → (pick b (roomed p) p).settings ≡ p.settings
-    room_settings true = refl
-    room_settings false = refl
+        go false b = (enterable p r.frame (told p s) m.frame, λ _. logs_end p r.frame (told p s) m.frame)
 
     -- what is left then is what the record leaves
-    pub played : (asks : Asked) (g g' : Head) (u access write : List ℕ) → asks ≡ asked_by kind → pool_in g u access write ≡ entered q r.row page asks → g' ≡ moved_to (head_of p) g
-        → Leaves (record_of p page kind) at (record { row = r.row; head = g' }) u access write before after
-    played asks g g' u access write a h x =
+    pub played : (asks : Asked) (b' : Bench) → asks ≡ asked_by kind → pool_on b' ≡ entered (pool_on b) r page asks → Leaves (record_of p page kind) at r b' before after
+    played asks b' a h =
         let k = worked_is p (told p s) z page kind w e in
-        let kept = ap (λ (y : Pool). y.settings) h ∙ entered_settings q r.row page asks ∙ ap (λ (y : Pool). y.settings) m.pool ∙ room_settings (wanted p w) in
         record {
-          effect = row_and_pool r.row (record_of p page kind).row (pool_in g' u access write) (record_of p page kind).pool (m.row ∙ k.row)
-              (ap (λ (y : Head). pool_in y u access write) (x ∙ moved_on p g kept) ∙ h ∙ rw (a, m.pool, m.row) k.pool);
+          effect = row_and_pool r (record_of p page kind).row (pool_on b') (record_of p page kind).pool (m.row ∙ k.row) (h ∙ rw (a, m.pool, m.row) k.pool);
           list = m.list ∙ ap (sets before at) k.written;
         }

@@ -9,8 +9,8 @@ use Rattle.pool.specs.declared.Pool.{Pool}
 use Rattle.limit.specs.Limits.{reference_limit}
 use Rattle.pool.specs.Pool.{access_room, write_room, frame_at, with_dirty, with_pins, with_count, with_last, with_accesses, with_writes, with_k, with_frames, with_access, with_write, with_frame, now_of}
 use Rattle.pool.specs.Sound.{sound_pool}
-use Rattle.table.specs.declared.Head.{Head}
-use Rattle.table.specs.Table.{head_with_settings, head_with_k, pool_in}
+use Rattle.table.specs.declared.Bench.{Bench}
+use Rattle.table.specs.Table.{pool_on}
 use Rattle.reference.specs.ForCode.{RestZero}
 use Rattle.reference.specs.Logs.{cleared, length_with, log_with}
 use Rattle.reference.specs.Reference.{raised, new_frame, unpinned_at}
@@ -20,7 +20,6 @@ use Rattle.batch.specs.Batch.{batch_of, cleaned, pages_of}
 use Rattle.tally.specs.declared.Row.{Row}
 use Rattle.tally.specs.Rows.{row, hit, miss_unused, miss_clean, miss_dirty, unpin_done, refused_row}
 use Rattle.effect.specs.declared.Asked.{Asked}
-use Rattle.effect.specs.declared.Worked.{Worked}
 use Rattle.effect.specs.Record.{Did, pin_limit}
 
 -- row and pool
@@ -32,13 +31,13 @@ pub record Effect : Type 0 where
 abbrev pub effect_of : Did → Effect
 effect_of d = record { row = d.row; pool = d.pool }
 
--- what the code answers, with the table and the logs as it leaves them
-abbrev pub effect_in : Worked → List ℕ → List ℕ → List ℕ → Effect
-effect_in r t access write = record { row = r.row; pool = pool_in r.head t access write }
+-- what the code answers, and the pool that it leaves on the bench
+abbrev pub effect_on : Row → Bench → Effect
+effect_on w b = record { row = w; pool = pool_on b }
 
 -- row and pool as they should be, the pages written put to the lent list from `at` on, and every other place as it was
-pub record Leaves (d : Did) (at : ℕ) (r : Worked) (t access write before after : List ℕ) : Type 0 where
-  pub effect : effect_in r t access write ≡ effect_of d
+pub record Leaves (d : Did) (at : ℕ) (w : Row) (b : Bench) (before after : List ℕ) : Type 0 where
+  pub effect : effect_on w b ≡ effect_of d
   pub list : after ≡ sets before at d.written
 
 -- a sound pool with all its log places, and as many places from `at` on as pages are written
@@ -108,11 +107,11 @@ module _ (p : Pool) where
   roomed = with_frames (left_by p (choice_of p)) room_frames
 
 -- what making room leaves
-pub record RoomMade (p : Pool) (at : ℕ) (r : Worked) (t before after : List ℕ) : Type 0 where
-  pub row : r.row ≡ room_row p
-  pub pool : pool_in r.head t p.access p.write ≡ roomed p
+pub record RoomMade (p : Pool) (at : ℕ) (r : Row) (b : Bench) (before after : List ℕ) : Type 0 where
+  pub row : r ≡ room_row p
+  pub pool : pool_on b ≡ roomed p
   pub list : after ≡ sets before at (room_pages p)
-  pub frame : r.row.frame < 128
+  pub frame : r.frame < 128
 
 -- with a settled row: room is made where a victim is wanted
 module _ (p : Pool) (w : Row) where
@@ -136,11 +135,11 @@ pub record RoomAsked (p : Pool) (w : Row) (at places : ℕ) : Type 0 where
   pub room : at + length (pages_where p w) ≤ places
 
 -- what is left then
-pub record RoomWhere (p : Pool) (w : Row) (at : ℕ) (r : Worked) (t before after : List ℕ) : Type 0 where
-  pub row : r.row ≡ row_where p w
-  pub pool : pool_in r.head t p.access p.write ≡ pool_where p w
+pub record RoomWhere (p : Pool) (w : Row) (at : ℕ) (r : Row) (b : Bench) (before after : List ℕ) : Type 0 where
+  pub row : r ≡ row_where p w
+  pub pool : pool_on b ≡ pool_where p w
   pub list : after ≡ sets before at (pages_where p w)
-  pub frame : r.row.frame < 128
+  pub frame : r.frame < 128
 
 -- one pin more where it is asked for and the count is not full
 abbrev pub pins_with : Bool → ℕ → ℕ
@@ -157,14 +156,6 @@ fetched_frame page write pin k = with_last (with_pins (with_dirty (new_frame pag
 -- a frame that is unpinned
 abbrev pub unpinned_frame : Frame → Frame
 unpinned_frame fr = with_pins fr (fr.pins - 1)
-
--- one reference more
-abbrev pub with_step : Head → Head
-with_step h = head_with_k h (h.k + 1)
-
--- a head that moved on: the settings stay
-abbrev pub moved_to : Head → Head → Head
-moved_to h g = head_with_settings g h.settings
 
 -- a frame with logs of other lengths
 abbrev pub with_lengths : Frame → ℕ → ℕ → Frame

@@ -6,21 +6,14 @@ ghost use Rattle.search.specs.Search.{pick};
 ghost use Rattle.limit.specs.Limits.{reference_limit};
 ghost use Rattle.pool.specs.Pool.{frame_at};
 ghost use Rattle.pool.specs.Sound.{sound_pool};
-ghost use Rattle.table.specs.Table.{frames_in, pool_in};
+ghost use Rattle.table.specs.Table.{frames_in, pool_on};
 ghost use Rattle.tally.specs.Rows.{row, miss_clean, miss_dirty};
 ghost use Rattle.effect.specs.Record.{record_of};
-ghost use Rattle.effect.specs.ForCode.{Leaves, Plays, settled_hit, settled_miss, settled_reference, settled_unpin, asked, asked_by, settled_by, place_of, room_pages, RoomMade, RoomAsked, RoomWhere, Framed, pins_with, hit_frame, fetched_frame, unpinned_frame, with_step, moved_to, Enterable, LogsEnd, Entering, hit_in, fetched_in, entered};
+ghost use Rattle.effect.specs.ForCode.{Leaves, Plays, settled_hit, settled_miss, settled_reference, settled_unpin, asked, asked_by, settled_by, place_of, room_pages, RoomMade, RoomAsked, RoomWhere, Framed, pins_with, hit_frame, fetched_frame, unpinned_frame, Enterable, LogsEnd, Entering, hit_in, fetched_in, entered};
 
 use pool::Frame;
-use table::{Head, Table};
+use table::{Bench, Table};
 use tally::Row;
-
-// A record's row, and settings, k, hand and sampler number afterwards. Frames and logs are changed where they stand.
-#[derive(Clone, Copy)]
-pub struct Worked {
-    pub row: Row,
-    pub head: Head,
-}
 
 // The greatest pin count of a frame.
 const PIN_LIMIT: u8 = 255;
@@ -170,36 +163,17 @@ fn leaving_row(fr: Frame, v: usize, batch: usize) -> Row
 }
 
 // Where a victim is wanted: it is chosen and its batch written, or the record is refused.
-fn make_room<'a>(
-    h: Head,
-    table: &mut Table,
-    access: &'a [u32; 1024],
-    write: &'a [u32; 512],
-    out: &mut [u32],
-    at: usize,
-) -> Worked
-    requires { (sound_pool (pool_in h table.old access.now write.now) ≡ true) × (at + length (room_pages (pool_in h table.old access.now write.now)) ≤ length out.old) }
-    ensures { RoomMade (pool_in h table.old access.now write.now) at result table.new out.old out.new }
+fn make_room(bench: &mut Bench, out: &mut [u32], at: usize) -> Row
+    requires { (sound_pool (pool_on bench.old) ≡ true) × (at + length (room_pages (pool_on bench.old)) ≤ length out.old) }
+    ensures { RoomMade (pool_on bench.old) at result bench.new out.old out.new }
 {
-    let c = victim::choose(h, table, access, write);
-    let mut swept = h;
-    swept.hand = c.hand;
-    swept.sampler = c.sampler;
-    let found = c.found;
+    let found = victim::choose(bench);
     let Some(v) = found else {
-        let none = tally::refused_row(refusal::NO_FRAME);
-        return Worked {
-            row: none,
-            head: swept,
-        };
+        return tally::refused_row(refusal::NO_FRAME);
     };
-    let fr = table::frame_at(table, v);
-    let n = batch::write(swept, table, access, write, v, out, at);
-    let row = leaving_row(fr, v, n);
-    Worked {
-        row: row,
-        head: swept,
-    }
+    let fr = table::frame_at(&bench.table, v);
+    let n = batch::write(bench, v, out, at);
+    leaving_row(fr, v, n)
 }
 
 // One pin more where it is asked for.
@@ -247,61 +221,34 @@ fn unpinned_frame(fr: Frame) -> Frame
     g
 }
 
-// One reference more.
-fn counting(h: Head) -> Head
-    requires { h.k ≤ reference_limit }
-    ensures { result ≡ with_step h }
+// A hit in frame i: its frame and logs changed where they stand, and one reference more.
+fn enter_hit(bench: &mut Bench, i: usize, writes: bool, pins: bool)
+    requires { Enterable (pool_on bench.old) i × LogsEnd (pool_on bench.old) i }
+    ensures { pool_on bench.new ≡ hit_in (pool_on bench.old) i writes pins }
 {
-    let mut next = h;
-    next.k = h.k + 1;
-    next
-}
-
-// A hit in frame i: its frame and logs changed where they stand, and the head then.
-fn enter_hit(
-    h: Head,
-    table: &mut Table,
-    access: &mut [u32; 1024],
-    write: &mut [u32; 512],
-    i: usize,
-    writes: bool,
-    pins: bool,
-) -> Head
-    requires { Enterable (pool_in h table.old access.old write.old) i × LogsEnd (pool_in h table.old access.old write.old) i }
-    ensures { pool_in result table.new access.new write.new ≡ hit_in (pool_in h table.old access.old write.old) i writes pins }
-{
-    let epoch = table::now_of(h);
-    let old = table::frame_at(table, i);
-    let mut fr = hit_frame(old, writes, pins, h.settings.cap, h.k);
-    fr.accesses = reference::enter_access(access, i, fr.accesses, epoch);
-    fr.writes = reference::enter_write(write, i, fr.writes, epoch, writes);
-    table::put(table, i, fr);
-    counting(h)
+    let epoch = table::now_of(bench.head);
+    let old = table::frame_at(&bench.table, i);
+    let mut fr = hit_frame(old, writes, pins, bench.head.settings.cap, bench.head.k);
+    fr.accesses = reference::enter_access(&mut bench.access, i, fr.accesses, epoch);
+    fr.writes = reference::enter_write(&mut bench.write, i, fr.writes, epoch, writes);
+    table::put(&mut bench.table, i, fr);
+    bench.head.k += 1;
 }
 
 // A page fetched into frame i, likewise.
-fn enter_fetch(
-    h: Head,
-    table: &mut Table,
-    access: &mut [u32; 1024],
-    write: &mut [u32; 512],
-    i: usize,
-    page: u32,
-    writes: bool,
-    pins: bool,
-) -> Head
-    requires { Enterable (pool_in h table.old access.old write.old) i }
-    ensures { pool_in result table.new access.new write.new ≡ fetched_in (pool_in h table.old access.old write.old) i page writes pins }
+fn enter_fetch(bench: &mut Bench, i: usize, page: u32, writes: bool, pins: bool)
+    requires { Enterable (pool_on bench.old) i }
+    ensures { pool_on bench.new ≡ fetched_in (pool_on bench.old) i page writes pins }
 {
-    let epoch = table::now_of(h);
-    let mut fr = fetched_frame(page, writes, pins, h.k);
-    reference::clear_access(access, i);
-    reference::clear_write(write, i);
-    fr.accesses = reference::enter_access(access, i, 0, epoch);
-    fr.writes = reference::enter_write(write, i, 0, epoch, writes);
-    table::put(table, i, fr);
-    table::note(table, page, i);
-    counting(h)
+    let epoch = table::now_of(bench.head);
+    let mut fr = fetched_frame(page, writes, pins, bench.head.k);
+    reference::clear_access(&mut bench.access, i);
+    reference::clear_write(&mut bench.write, i);
+    fr.accesses = reference::enter_access(&mut bench.access, i, 0, epoch);
+    fr.writes = reference::enter_write(&mut bench.write, i, 0, epoch, writes);
+    table::put(&mut bench.table, i, fr);
+    table::note(&mut bench.table, page, i);
+    bench.head.k += 1;
 }
 
 // An unpin of frame i.
@@ -314,92 +261,46 @@ fn enter_unpin(table: &mut Table, i: usize)
     table::put(table, i, fr);
 }
 
-// A record with that row (a hit, a miss, an unpin, else refused), on a pool that has room for it, and the head then. A refused one leaves all
-// as it was.
-fn enter(
-    h: Head,
-    table: &mut Table,
-    access: &mut [u32; 1024],
-    write: &mut [u32; 512],
-    row: Row,
-    page: u32,
-    asks: Asked,
-) -> Head
-    requires { Entering (pool_in h table.old access.old write.old) row }
-    ensures { pool_in result table.new access.new write.new ≡ entered (pool_in h table.old access.old write.old) row page asks }
+// A record with that row (a hit, a miss, an unpin, else refused), on a pool that has room for it. A refused one leaves all as it was.
+fn enter(bench: &mut Bench, row: Row, page: u32, asks: Asked)
+    requires { Entering (pool_on bench.old) row }
+    ensures { pool_on bench.new ≡ entered (pool_on bench.old) row page asks }
 {
     let i = row.frame as usize;
-    let outcome = row.outcome;
-    match outcome {
-        0 => enter_hit(h, table, access, write, i, asks.write, asks.pin),
-        1..=3 => enter_fetch(h, table, access, write, i, page, asks.write, asks.pin),
-        4 => {
-            enter_unpin(table, i);
-            h
-        }
-        _ => h,
+    match row.outcome {
+        0 => enter_hit(bench, i, asks.write, asks.pin),
+        1..=3 => enter_fetch(bench, i, page, asks.write, asks.pin),
+        4 => enter_unpin(&mut bench.table, i),
+        _ => {}
     }
 }
 
 // Where a victim is wanted, room is made; else the row stays as it was settled.
-fn room_where<'a>(
-    h: Head,
-    table: &mut Table,
-    access: &'a [u32; 1024],
-    write: &'a [u32; 512],
-    row: Row,
-    out: &mut [u32],
-    at: usize,
-) -> Worked
-    requires { RoomAsked (pool_in h table.old access.now write.now) row at (length out.old) }
-    ensures { RoomWhere (pool_in h table.old access.now write.now) row at result table.new out.old out.new }
+fn room_where(bench: &mut Bench, row: Row, out: &mut [u32], at: usize) -> Row
+    requires { RoomAsked (pool_on bench.old) row at (length out.old) }
+    ensures { RoomWhere (pool_on bench.old) row at result bench.new out.old out.new }
 {
     if row.outcome == tally::MISS_CLEAN {
-        return make_room(h, table, access, write, out, at);
+        return make_room(bench, out, at);
     }
-    Worked { row: row, head: h }
+    row
 }
 
-// A head that moved on: k, hand and sampler number are the next one's. The settings are its own, so that they need not go round a loop.
-fn moved(h: Head, next: Head) -> Head
-    ensures { result ≡ moved_to h next }
-{
-    let mut after = h;
-    after.k = next.k;
-    after.hand = next.hand;
-    after.sampler = next.sampler;
-    after
-}
-
-// What a record does to a pool, in place: its frames in a table, its logs, and the rest; its written pages go to `out` from `at` on. Each part is
+// What a record does to the pool that lies on a bench, in place, and its row; its written pages go to `out` from `at` on. Each part is
 // called from here alone, so that the compiler puts it in here.
-pub fn play(
-    h: Head,
-    table: &mut Table,
-    access: &mut [u32; 1024],
-    write: &mut [u32; 512],
-    page: u32,
-    kind: u16,
-    out: &mut [u32],
-    at: usize,
-) -> Worked
-    requires { Plays (pool_in h table.old access.old write.old) (record_of (pool_in h table.old access.old write.old) page kind) at (length out.old) }
-    ensures { Leaves (record_of (pool_in h table.old access.old write.old) page kind) at result table.new access.new write.new out.old out.new }
+pub fn play(bench: &mut Bench, page: u32, kind: u16, out: &mut [u32], at: usize) -> Row
+    requires { Plays (pool_on bench.old) (record_of (pool_on bench.old) page kind) at (length out.old) }
+    ensures { Leaves (record_of (pool_on bench.old) page kind) at result bench.new out.old out.new }
 {
     let asks = asked_by(kind);
-    let n = reference::in_use(table, h.settings.frames);
-    let found = reference::find(table, page, n);
-    let free = reference::lowest_unused(n, h.settings.frames);
+    let head = bench.head;
+    let n = reference::in_use(&bench.table, head.settings.frames);
+    let found = reference::find(&bench.table, page, n);
+    let free = reference::lowest_unused(n, head.settings.frames);
     // Where nothing was found these are the pins of frame 0, which are not looked at.
-    let old = table::frame_at(table, place_of(found));
-    let settled = settle(h.k, found, old.pins, free, asks);
-    let room = room_where(h, table, access, write, settled, out, at);
-    let row = room.row;
-    let roomed = room.head;
-    let entered = enter(roomed, table, access, write, row, page, asks);
-    let after = moved(h, entered);
-    Worked {
-        row: row,
-        head: after,
-    }
+    let old = table::frame_at(&bench.table, place_of(found));
+    let settled = settle(head.k, found, old.pins, free, asks);
+    let row = room_where(bench, settled, out, at);
+    enter(bench, row, page, asks);
+    row
 }

@@ -5,7 +5,6 @@ use mathlib.Core.List.{List}
 use Prim.Native.Nat.{ℕ, ◌+◌, ◌*◌, ◌≤◌, ◌<◌}
 use native.Mathlib.Omega.{arith}
 use lib.ListN.{length}
-use lib.Seq.{sets}
 use lib.Dec.{leb}
 use borrow.Author.Tests.{leb-true}
 use Rattle.trace.specs.declared.Summary.{Summary}
@@ -21,9 +20,6 @@ use Rattle.pool.specs.Pool.{frame_at}
 use Rattle.pool.specs.Sound.{sound_pool}
 use Rattle.pool.proofs.Sound.{Sound, told, made}
 use Rattle.pool.proofs.Sizes.{Sized}
-use Rattle.table.specs.declared.Head.{Head}
-use Rattle.table.specs.Table.{frames_in, head_of, pool_in}
-use Rattle.table.proofs.Held.{of_parts}
 use Rattle.tally.specs.declared.Tally.{Tally}
 use Rattle.tally.specs.Tally.{tally_limit}
 use Rattle.tally.specs.ForCode.{Within, Countable}
@@ -31,13 +27,13 @@ use Rattle.tally.proofs.Laws.{within_countable}
 use Rattle.effect.specs.Record.{Did, record_of, dirty_in}
 use Rattle.effect.specs.ForCode.{Effect, effect_of, Plays}
 use Rattle.replay.specs.declared.Ended.{Ended}
-use Rattle.replay.specs.Replay.{replay_to, replay_of, rows_numbers}
+use Rattle.replay.specs.Replay.{replay_to, replay_of}
 use Rattle.replay.specs.Calls.{room_for, ended_as, ended_of}
 use Rattle.replay.specs.ForCode.{Ready}
 use Rattle.replay.proofs.Laws.{doing}
 use Rattle.replay.proofs.Begins.{begins_sound, begins_within, counts_fit}
 use Rattle.replay.proofs.Going.{going, doing_few, doing_batch, written_fits}
-use Rattle.replay.proofs.Running.{Counting, Listing, same_doing, counting_all, listing_all}
+use Rattle.replay.proofs.Running.{Counting, Listing, same_doing, counting_all}
 
 -- a pool has 128 frames
 pub dirty_few : (fs : List Frame) → dirty_in fs ≤ 128
@@ -119,25 +115,7 @@ module _ (p : Pool) (t : Tally) (s : List ℕ) (h : Summary) (z : Sized p) (y : 
       pub row_room : 4 * i + 4 ≤ rows
       row_room = let n = (counts_are s h y.accepted).0 in let r = rooms.0 in omega arith
 
-module _ (p : Pool) (g : Head) (tab : List ℕ) (e : g ≡ head_of p) (f : frames_in tab ≡ p.frames) where
-  abbrev first : Pool
-  first = pool_in g tab p.access p.write
-
-  -- what a loop asks for, and the sizes, hold of the pool of these parts
-  pub begun : (t : Tally) (s : List ℕ) (h : Summary) → Ready p t s h → Ready first t s h
-  begun t s h y = subst (λ (q : Pool). Ready q t s h) (sym (of_parts p g tab e f)) y
-
-  pub begun_sized : Sized p → Sized first
-  begun_sized z = subst Sized (sym (of_parts p g tab e f)) z
-
-  module _ (t : Tally) (trace : Trace) where
-    -- and what it comes to in the end is about the pool
-    pub counted_all : (q left : Pool) (u : Tally) (i : ℕ) → Counting first t trace q u i → left ≡ q → i ≡ length trace.pages → ◌≡◌ {A = Ended} (ended_as 0 left u) (ended_of 0 p t (replay_of p t trace))
-    counted_all q left u i c l n = ap (λ (x : Pool). ended_as 0 x u) l ∙ counting_all p t trace q u i (subst (λ (x : Pool). Counting x t trace q u i) (of_parts p g tab e f) c) n
-
-    pub listed_all : (rows₀ written₀ rows written : List ℕ) (at i : ℕ) → Listing first t trace rows₀ written₀ rows written at i → i ≡ length trace.pages
-        → (rows ≡ sets rows₀ 0 (rows_numbers (replay_of p t trace).rows)) × (written ≡ sets written₀ 0 (replay_of p t trace).written)
-    listed_all rows₀ written₀ rows written at i c n = listing_all p t trace rows₀ written₀ rows written at i (subst (λ (x : Pool). Listing x t trace rows₀ written₀ rows written at i) (of_parts p g tab e f) c) n
-
-    pub room_first : (rows written : ℕ) → room_for p trace rows written ≡ true → room_for first trace rows written ≡ true
-    room_first rows written h = subst (λ (x : Pool). room_for x trace rows written ≡ true) (sym (of_parts p g tab e f)) h
+module _ (p : Pool) (t : Tally) (trace : Trace) where
+  -- what it comes to in the end
+  pub counted_all : (q left : Pool) (u : Tally) (i : ℕ) → Counting p t trace q u i → left ≡ q → i ≡ length trace.pages → ◌≡◌ {A = Ended} (ended_as 0 left u) (ended_of 0 p t (replay_of p t trace))
+  counted_all q left u i c l n = ap (λ (x : Pool). ended_as 0 x u) l ∙ counting_all p t trace q u i c n

@@ -42,8 +42,8 @@ written_more : (l₀ l vs us ws : List ℕ) (at : ℕ) → us ≡ ws → at ≡ 
 written_more l₀ l vs us ws at e n h = rw (h, e, n, sets_append vs ws l₀ 0, zero-add)
 
 module _ (p : Pool) (t : Tally) (trace : Trace) where
-  pub counting_none : Counting p t trace p t 0
-  counting_none = record { pool = sym (ap (λ (r : Played). r.pool) (replay_none p t trace)); tally = sym (ap (λ (r : Played). r.tally) (replay_none p t trace)) }
+  pub counting_none : (q : Pool) → q ≡ p → Counting p t trace q t 0
+  counting_none q e = record { pool = e ∙ sym (ap (λ (r : Played). r.pool) (replay_none p t trace)); tally = sym (ap (λ (r : Played). r.tally) (replay_none p t trace)) }
 
   pub listing_none : (rows written : List ℕ) → Listing p t trace rows written rows written 0 0
   listing_none rows written = record {

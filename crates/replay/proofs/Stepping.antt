@@ -21,8 +21,8 @@ use Rattle.tally.specs.Tally.{tally_limit, counted_by}
 use Rattle.tally.specs.ForCode.{Countable}
 use Rattle.tally.proofs.Laws.{within_countable}
 use Rattle.effect.specs.Record.{record_of}
-use Rattle.table.specs.Table.{pool_in}
-use Rattle.effect.specs.declared.Worked.{Worked}
+use Rattle.table.specs.declared.Bench.{Bench}
+use Rattle.table.specs.Table.{pool_on}
 use Rattle.effect.specs.ForCode.{Effect, effect_of, Leaves, Plays}
 use Rattle.effect.proofs.Kept.{record_kept}
 use Rattle.replay.specs.Calls.{may_begin, step_refusal, StepInto}
@@ -77,10 +77,10 @@ module _ (p : Pool) (t : Tally) (page kind : ℕ) where
       go zero e ne h = absurd (ne refl)
       go (suc n) e ne h = record { answers = rw (← e, h); list_holds = rw (← e) }
 
-  pub step_done : (list list' : List ℕ) (r : ℕ) (q : Pool) (e : Worked) (tab access write : List ℕ) (left : Pool) (u : Tally) → r ≡ step_refusal p t kind (length list) → r ≡ 0
-      → q ≡ p → Leaves (record_of q page kind) 0 e tab access write list list' → left ≡ pool_in e.head tab access write → u ≡ counted_by t e.row
-      → StepInto p t page kind list (record { refusal = 0; row = e.row; pool = left; tally = u }) list'
-  step_done list list' r q e tab access write left u o h same x d y =
+  pub step_done : (list list' : List ℕ) (r : ℕ) (q : Pool) (w : Row) (b : Bench) (left : Pool) (u : Tally) → r ≡ step_refusal p t kind (length list) → r ≡ 0
+      → q ≡ p → Leaves (record_of q page kind) 0 w b list list' → left ≡ pool_on b → u ≡ counted_by t w
+      → StepInto p t page kind list (record { refusal = 0; row = w; pool = left; tally = u }) list'
+  step_done list list' r q w b left u o h same x d y =
       let z : step_refusal p t kind (length list) ≡ 0 = sym o ∙ h in
       let row = ap (λ (f : Effect). f.row) x.effect ∙ ap (λ (v : Pool). (record_of v page kind).row) same in
       let pool = d ∙ ap (λ (f : Effect). f.pool) x.effect ∙ ap (λ (v : Pool). (record_of v page kind).pool) same in

@@ -64,23 +64,10 @@ pub fn step(pool: Pool, tally: Tally, page: u32, kind: u16, written: &mut [u32])
             tally: tally,
         };
     }
-    let h = table::head_of(&pool);
-    let mut table = table::table_of(&pool.frames);
-    let mut access = pool.access;
-    let mut write = pool.write;
-    let e = effect::play(
-        h,
-        &mut table,
-        &mut access,
-        &mut write,
-        page,
-        kind,
-        written,
-        0,
-    );
-    let row = e.row;
+    let mut bench = table::bench_of(&pool);
+    let row = effect::play(&mut bench, page, kind, written, 0);
     let after = tally::raised(tally, row);
-    let end = table::pool_of(e.head, &table, access, write);
+    let end = table::pool_of(&bench);
     Stepped {
         refusal: 0,
         row: row,
@@ -128,10 +115,7 @@ fn run(
     ensures { RanInto pool tally bytes.now rows.old list.old result rows.new list.new }
 {
     let n = summary.count as usize;
-    let mut h = table::head_of(&pool);
-    let mut table = table::table_of(&pool.frames);
-    let mut access = pool.access;
-    let mut write = pool.write;
+    let mut bench = table::bench_of(&pool);
     let mut t = tally;
     let mut at: usize = 0;
     let mut i: usize = 0;
@@ -139,15 +123,13 @@ fn run(
         let record = trace::record_at(bytes, summary, i);
         let page = record.page;
         let kind = record.kind;
-        let e = effect::play(h, &mut table, &mut access, &mut write, page, kind, list, at);
-        let row = e.row;
+        let row = effect::play(&mut bench, page, kind, list, at);
         tally::put_row(rows, 4 * i, row);
         t = tally::raised(t, row);
         at = at + row.batch as usize;
-        h = e.head;
         i += 1;
     }
-    let end = table::pool_of(h, &table, access, write);
+    let end = table::pool_of(&bench);
     ending(0, end, t)
 }
 
@@ -159,32 +141,18 @@ pub fn count(pool: Pool, tally: Tally, bytes: &[u8], summary: Summary) -> Ended
 {
     let n = summary.count as usize;
     let mut scratch = [0u32; 16];
-    let mut h = table::head_of(&pool);
-    let mut table = table::table_of(&pool.frames);
-    let mut access = pool.access;
-    let mut write = pool.write;
+    let mut bench = table::bench_of(&pool);
     let mut t = tally;
     let mut i: usize = 0;
     while i < n {
         let record = trace::record_at(bytes, summary, i);
         let page = record.page;
         let kind = record.kind;
-        let e = effect::play(
-            h,
-            &mut table,
-            &mut access,
-            &mut write,
-            page,
-            kind,
-            &mut scratch,
-            0,
-        );
-        let row = e.row;
+        let row = effect::play(&mut bench, page, kind, &mut scratch, 0);
         t = tally::raised(t, row);
-        h = e.head;
         i += 1;
     }
-    let end = table::pool_of(h, &table, access, write);
+    let end = table::pool_of(&bench);
     ending(0, end, t)
 }
 

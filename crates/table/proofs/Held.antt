@@ -16,8 +16,7 @@ use Rattle.search.proofs.Least.{last_or_below}
 use Rattle.pool.specs.declared.Frame.{Frame}
 use Rattle.pool.specs.declared.Pool.{Pool}
 use Rattle.pool.specs.Pool.{empty_frame, frame_at, with_count, with_dirty}
-use Rattle.table.specs.declared.Head.{Head}
-use Rattle.table.specs.Table.{table_length, guess_start, frame_in, frames_to, frames_in, head_of, pool_in}
+use Rattle.table.specs.Table.{table_length, guess_start, frame_in, frames_to, frames_in}
 use Rattle.table.proofs.Cells.{place, stores, other_frame, other_field, own_field}
 
 pub frames_long : (t : List ℕ) (n : ℕ) → length (frames_to t n) ≡ n
@@ -162,7 +161,3 @@ module _ (all : List Frame) where
   pub filled_all : (l : List Frame) (i : ℕ) → length l ≡ 128 → length all ≡ 128 → i ≡ 128 → Filled all l i → l ≡ all
   unfolding Filled
   filled_all l i n m e f = ext_get_or empty_frame l all (n ∙ sym m) (λ j b. f j (omega arith))
-
--- the head, the table and the logs of a pool are that pool
-pub of_parts : (p : Pool) (g : Head) (tab : List ℕ) → g ≡ head_of p → frames_in tab ≡ p.frames → pool_in g tab p.access p.write ≡ p
-of_parts p g tab e f = rw (e, f)

@@ -1,9 +1,8 @@
 -- A pool's frames as a table of numbers: eight to a frame, field after field; then guesses at the frames of pages, which no frame reads.
 use Rattle.std.specs.Prelude.{ℕ, zero, suc, ◌+◌, ◌%◌, List, [], ◌∷◌, ◌++◌, get_or, eqb}
-use Rattle.settings.specs.declared.Settings.{Settings}
 use Rattle.pool.specs.declared.Frame.{Frame}
 use Rattle.pool.specs.declared.Pool.{Pool}
-use Rattle.table.specs.declared.Head.{Head}
+use Rattle.table.specs.declared.Bench.{Bench}
 
 -- the guesses begin behind eight numbers to a frame, and are 1,024
 abbrev pub guess_start : ℕ
@@ -41,21 +40,14 @@ guess_place page = guess_start + page % 1024
 abbrev pub guess_in : List ℕ → ℕ → ℕ
 guess_in t page = get_or t (guess_place page) 0 % 128
 
--- what a pool holds beside its frames and logs
-abbrev pub head_of : Pool → Head
-head_of p = record { settings = p.settings; k = p.k; hand = p.hand; sampler = p.sampler }
-
--- a head with other settings, and with another number of accepted references
-abbrev pub head_with_settings : Head → Settings → Head
-head_with_settings h s = record { settings = s; k = h.k; hand = h.hand; sampler = h.sampler }
-
-abbrev pub head_with_k : Head → ℕ → Head
-head_with_k h k = record { settings = h.settings; k = k; hand = h.hand; sampler = h.sampler }
-
--- the pool of a head, frames and the logs
-abbrev pub pool_with : Head → List Frame → List ℕ → List ℕ → Pool
-pool_with h fs access write = record { settings = h.settings; k = h.k; hand = h.hand; sampler = h.sampler; frames = fs; access = access; write = write }
-
--- the pool of a head, a table of frames, and the logs
-abbrev pub pool_in : Head → List ℕ → List ℕ → List ℕ → Pool
-pool_in h t access write = pool_with h (frames_in t) access write
+-- the pool that lies on a bench
+abbrev pub pool_on : Bench → Pool
+pool_on b = record {
+  settings = b.head.settings;
+  k = b.head.k;
+  hand = b.head.hand;
+  sampler = b.head.sampler;
+  frames = frames_in b.table;
+  access = b.access;
+  write = b.write;
+}

@@ -4,7 +4,7 @@
 
 ghost use Rattle.std.specs.Prelude.{◌≡◌, false, ◌%◌, ◌<◌, length, set};
 ghost use Rattle.pool.specs.Pool.{frame_at, with_count, now_at, with_dirty};
-ghost use Rattle.table.specs.Table.{table_length, frames_in, guess_place, guess_in, head_of, pool_in};
+ghost use Rattle.table.specs.Table.{table_length, frames_in, guess_place, guess_in, pool_on};
 
 use pool::{Frame, Pool};
 use settings::Settings;
@@ -27,16 +27,13 @@ pub struct Head {
     pub sampler: u32,
 }
 
-// That of a pool.
-pub fn head_of(p: &Pool) -> Head
-    ensures { result ≡ head_of p.now }
-{
-    Head {
-        settings: p.settings,
-        k: p.k,
-        hand: p.hand,
-        sampler: p.sampler,
-    }
+// A pool laid out to be worked on: head, table of frames, and logs, each changed where it stands.
+#[derive(Clone, Copy)]
+pub struct Bench {
+    pub head: Head,
+    pub table: Table,
+    pub access: [u32; 1024],
+    pub write: [u32; 512],
 }
 
 // Now: the epoch of the next reference.
@@ -138,17 +135,34 @@ fn frames_of(table: &Table) -> [Frame; 128]
     array::from_fn(|i| frame_at(table, i))
 }
 
-// The pool of a head, a table of frames, and the logs.
-pub fn pool_of(h: Head, table: &Table, access: [u32; 1024], write: [u32; 512]) -> Pool
-    ensures { result ≡ pool_in h table.now access write }
+// A pool laid out.
+pub fn bench_of(p: &Pool) -> Bench
+    ensures { pool_on result ≡ p.now }
+{
+    Bench {
+        head: Head {
+            settings: p.settings,
+            k: p.k,
+            hand: p.hand,
+            sampler: p.sampler,
+        },
+        table: table_of(&p.frames),
+        access: p.access,
+        write: p.write,
+    }
+}
+
+// The pool that lies on a bench.
+pub fn pool_of(bench: &Bench) -> Pool
+    ensures { result ≡ pool_on bench.now }
 {
     Pool {
-        settings: h.settings,
-        k: h.k,
-        hand: h.hand,
-        sampler: h.sampler,
-        frames: frames_of(table),
-        access,
-        write,
+        settings: bench.head.settings,
+        k: bench.head.k,
+        hand: bench.head.hand,
+        sampler: bench.head.sampler,
+        frames: frames_of(&bench.table),
+        access: bench.access,
+        write: bench.write,
     }
 }

@@ -1,5 +1,5 @@
 -- What every rule owes, the pool's own rule owes.
-use Rattle.std.proofs.Common.{◌≡◌, ℕ, zero, suc, ◌≤◌, List, [], sym, refl, ap, ◌∙◌, arith, None}
+use Rattle.std.proofs.Common.{◌≡◌, ℕ, zero, suc, ◌≤◌, List, [], sym, refl, ap, subst, ◌∙◌, arith, Option, None}
 use Rattle.search.proofs.Least.{one_or_none}
 use Rattle.settings.proofs.Laws.{ranges}
 use Rattle.pool.specs.declared.Pool.{Pool}
@@ -7,10 +7,8 @@ use Rattle.pool.specs.Pool.{frame_at}
 use Rattle.pool.proofs.Sound.{Sound}
 use Rattle.pool.proofs.Sizes.{Sized}
 use Rattle.victim.specs.Choice.{Choice, Rule, unmoved, left_by}
-use Rattle.table.specs.declared.Head.{Head}
-use Rattle.table.specs.Table.{pool_in}
-use Rattle.victim.specs.declared.Chosen.{Chosen}
-use Rattle.victim.specs.ForCode.{choice_in, no_choice}
+use Rattle.table.specs.declared.Bench.{Bench}
+use Rattle.victim.specs.ForCode.{Chose}
 use Rattle.victim.specs.Rules.{no_rule, by_rule, choice_of, batch_order}
 use Rattle.victim.proofs.Owed.{AllPinned, lowered_same, quiet_of, Serves, Owes}
 use Rattle.victim.proofs.lru.Laws.{lru_serves, lru_owes}
@@ -65,10 +63,10 @@ pub choice_serves : (p : Pool) → Sound p → ((choice_of p).found ≡ None →
 unfolding choice_of
 choice_serves p s = rule_serves p.settings.rule (ranges p.settings s.settings).rule p
 
--- what the rule of a number chooses is the pool's own choice
-pub choice_by : (p : Pool) (c : Choice) (r : ℕ) → p.settings.rule ≡ r → c ≡ (by_rule r).choice p → c ≡ choice_of p
+-- what the rule of a number chooses and leaves is the pool's own choice
+pub chose_by : (p : Pool) (r : ℕ) (found : Option ℕ) (b : Bench) → p.settings.rule ≡ r → Chose p ((by_rule r).choice p) found b → Chose p (choice_of p) found b
 unfolding choice_of
-choice_by p c r e h = h ∙ rw e
+chose_by p r found b e h = subst (λ (k : ℕ). Chose p ((by_rule k).choice p) found b) (sym e) h
 
 -- past the last rule there is none
 none_past : (r : ℕ) → 3 ≤ r → by_rule r ≡ no_rule
@@ -77,10 +75,9 @@ none_past (suc zero) l = absurd (omega arith)
 none_past (suc (suc zero)) l = absurd (omega arith)
 none_past (suc (suc (suc r))) l = refl
 
-pub choice_none : (h : Head) (t access write : List ℕ) (r : Chosen) → 3 ≤ h.settings.rule → r ≡ no_choice h → choice_in r t ≡ choice_of (pool_in h t access write)
+pub choice_none : (p : Pool) → 3 ≤ p.settings.rule → unmoved p None ≡ choice_of p
 unfolding choice_of
-choice_none h t access write r l e =
-    ap (λ (x : Chosen). choice_in x t) e ∙ ap (λ (x : Rule). x.choice (pool_in h t access write)) (sym (none_past h.settings.rule l))
+choice_none p l = ap (λ (x : Rule). x.choice p) (sym (none_past p.settings.rule l))
 
 pub no_name : (r : ℕ) → 3 ≤ r → [] ≡ (by_rule r).name
 no_name r l = ap (λ (x : Rule). x.name) (sym (none_past r l))

@@ -7,19 +7,11 @@ pub mod watt;
 
 ghost use Rattle.std.specs.Prelude.{◌≡◌, ◌≤◌, true, take};
 ghost use Rattle.pool.specs.Sound.{sound_pool};
-ghost use Rattle.table.specs.Table.{pool_in};
-ghost use Rattle.victim.specs.ForCode.{choice_in, no_choice};
+ghost use Rattle.table.specs.Table.{pool_on};
+ghost use Rattle.victim.specs.ForCode.{Chose};
 ghost use Rattle.victim.specs.Rules.{by_rule, choice_of};
 
-use table::{Head, Table};
-
-// What a rule chooses: its victim or none, and hand and sampler number then. The frames that it leaves stand in the table.
-#[derive(Clone, Copy)]
-pub struct Chosen {
-    pub found: Option<usize>,
-    pub hand: u16,
-    pub sampler: u32,
-}
+use table::Bench;
 
 // A rule's name, at the front of the bytes.
 #[derive(Clone, Copy)]
@@ -50,33 +42,15 @@ pub fn name_of(rule: u16) -> Name
     }
 }
 
-// No rule's choice.
-fn nothing(h: Head) -> Chosen
-    ensures { result ≡ no_choice h }
+// What the pool's own rule chooses: its victim or none; it moves hand, sampler number and counts where they stand.
+pub fn choose(bench: &mut Bench) -> Option<usize>
+    requires { sound_pool (pool_on bench.old) ≡ true }
+    ensures { Chose (pool_on bench.old) (choice_of (pool_on bench.old)) result bench.new }
 {
-    Chosen {
-        found: None,
-        hand: h.hand,
-        sampler: h.sampler,
-    }
-}
-
-// What the pool's own rule chooses.
-pub fn choose<'a>(
-    h: Head,
-    table: &mut Table,
-    access: &'a [u32; 1024],
-    write: &'a [u32; 512],
-) -> Chosen
-    requires { sound_pool (pool_in h table.old access.now write.now) ≡ true }
-    ensures { choice_in result table.new ≡ choice_of (pool_in h table.old access.now write.now) }
-{
-    let s = h.settings;
-    let rule = s.rule;
-    match rule {
-        0 => lru::choose(h, table, access, write),
-        1 => clock::choose(h, table, access, write),
-        2 => watt::choose(h, table, access, write),
-        3..=65535 => nothing(h),
+    match bench.head.settings.rule {
+        0 => lru::choose(bench),
+        1 => clock::choose(bench),
+        2 => watt::choose(bench),
+        3..=65535 => None,
     }
 }

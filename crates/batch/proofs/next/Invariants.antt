@@ -1,12 +1,7 @@
-use Prim.Native.Nat.{◌-◌, ◌≤◌}
-use mathlib.Core.Bool.{false}
-use lib.ListN.{get_or}
+use Rattle.std.proofs.Common.{false, get_or}
 use Rattle.victim.proofs.watt.Turns.{Best}
 use Rattle.batch.specs.ForCode.{held_value}
 use Rattle.batch.proofs.next.Given as goal
 
 abbrev pub invariant-loop-i : goal.invariant-loop-i
-invariant-loop-i l = (l.i ≤ l.f) × Best (held_value l.nums l.dens) (λ j. get_or l.waiting j false) l.i l.best l.low
-
-abbrev pub decreases-loop-i : goal.decreases-loop-i
-decreases-loop-i l = l.f - l.i
+invariant-loop-i l = Best (held_value l.nums l.dens) (λ j. get_or l.waiting j false) l.i l.best l.low

@@ -1,11 +1,10 @@
 use mathlib.Core.Path.{◌∙◌}
-use Rattle.table.specs.Table.{pool_in}
+use Rattle.table.specs.Table.{pool_on}
 use Rattle.effect.proofs.Placed.{fetch_left}
 use Rattle.effect.proofs.enter_fetch.Goals as goal
 
 pub returns : goal.returns
 returns c =
-    let a = c.args in
-    fetch_left (pool_in a.h a.table.now a.access.now a.write.now) _ _ _ _ _ c.now_of-epoch.ensures c.counting.ensures _ _ _ _ _ _ _ _ _
+    fetch_left (pool_on c.args.bench.now) _ _ _ _ c.now_of-epoch.ensures _ _ _ _ _ _ _ _ _
     c.fetched_frame-fr.ensures c.clear_access.ensures.0 c.clear_write.ensures.0
     c.enter_access.ensures c.enter_write.ensures (c.note.ensures.1 ∙ c.put.ensures)

@@ -1,9 +1,8 @@
-use Rattle.table.specs.Table.{pool_in}
+use Rattle.table.specs.Table.{pool_on}
 use Rattle.effect.proofs.Placed.{hit_left}
 use Rattle.effect.proofs.enter_hit.Goals as goal
 
 pub returns : goal.returns
 returns c =
-    let a = c.args in
-    hit_left (pool_in a.h a.table.now a.access.now a.write.now) _ _ _ _ _ c.now_of-epoch.ensures c.counting.ensures _ _ _ _ _ _ _
+    hit_left (pool_on c.args.bench.now) _ _ _ _ c.now_of-epoch.ensures _ _ _ _ _ _ _
     c.frame_at-old.ensures c.hit_frame-fr.ensures c.enter_access.ensures c.enter_write.ensures c.put.ensures

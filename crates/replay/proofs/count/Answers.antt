@@ -2,35 +2,35 @@ use mathlib.Core.Path.{◌∙◌}
 use native.Mathlib.Omega.{arith}
 use Rattle.trace.proofs.Accept.{counts_are}
 use Rattle.pool.proofs.Sizes.{Sized}
-use Rattle.table.specs.Table.{pool_in}
+use Rattle.table.specs.Table.{pool_on}
 use Rattle.replay.proofs.Running.{counting_none, counting_more}
-use Rattle.replay.proofs.Counting.{count_plays, countable, played, begun, begun_sized, counted_all}
+use Rattle.replay.proofs.Counting.{count_plays, countable, played, counted_all}
 use borrow.Author.Rules.{rules}
 use Rattle.replay.proofs.count.Goals as goal
 
 pub loop-i-init : goal.loop-i-init
-loop-i-init c = (search rules, search rules, counting_none _ _ _)
+loop-i-init c = (search rules, search rules, counting_none _ _ _ _ c.bench_of-bench.ensures)
 
-pub play-e-requires : goal.play-e-requires
-play-e-requires c =
+pub play-row-requires : goal.play-row-requires
+play-row-requires c =
     let z : Sized c.args.pool = record { frames = search rules; access = search rules; write = search rules } in
-    rw c.loop-i.invariant.1 (count_plays (pool_in c.head_of-h.result c.table_of-table.result c.args.pool.access c.args.pool.write) c.args.tally c.args.bytes.now c.args.summary (begun_sized c.args.pool _ _ c.head_of-h.ensures c.table_of-table.ensures z) (begun c.args.pool _ _ c.head_of-h.ensures c.table_of-table.ensures _ _ _ c.requires) _ _ _ c.loop-i-test.true c.loop-i.invariant.2 _ c.record_at-record.ensures)
+    rw c.loop-i.invariant.1 (count_plays c.args.pool c.args.tally c.args.bytes.now c.args.summary z c.requires _ _ _ c.loop-i-test.true c.loop-i.invariant.2 _ c.record_at-record.ensures)
 
 pub raised-t-requires : goal.raised-t-requires
 raised-t-requires c =
     let z : Sized c.args.pool = record { frames = search rules; access = search rules; write = search rules } in
-    countable (pool_in c.head_of-h.result c.table_of-table.result c.args.pool.access c.args.pool.write) c.args.tally c.args.bytes.now c.args.summary (begun_sized c.args.pool _ _ c.head_of-h.ensures c.table_of-table.ensures z) (begun c.args.pool _ _ c.head_of-h.ensures c.table_of-table.ensures _ _ _ c.requires) _ _ _ c.loop-i-test.true c.loop-i.invariant.2 _ c.record_at-record.ensures _ c.play-e.ensures.effect
+    countable c.args.pool c.args.tally c.args.bytes.now c.args.summary z c.requires _ _ _ c.loop-i-test.true c.loop-i.invariant.2 _ c.record_at-record.ensures _ c.play-row.ensures.effect
 
 pub loop-i-preserved : goal.loop-i-preserved
 loop-i-preserved c =
     let z : Sized c.args.pool = record { frames = search rules; access = search rules; write = search rules } in
-    let same = played (pool_in c.head_of-h.result c.table_of-table.result c.args.pool.access c.args.pool.write) c.args.tally c.args.bytes.now c.args.summary (begun_sized c.args.pool _ _ c.head_of-h.ensures c.table_of-table.ensures z) (begun c.args.pool _ _ c.head_of-h.ensures c.table_of-table.ensures _ _ _ c.requires) _ _ _ c.loop-i-test.true c.loop-i.invariant.2 _ c.record_at-record.ensures in (
+    let same = played c.args.pool c.args.tally c.args.bytes.now c.args.summary z c.requires _ _ _ c.loop-i-test.true c.loop-i.invariant.2 _ c.record_at-record.ensures in (
       search rules,
       search rules,
-      counting_more _ _ _ _ _ _ _ _ _ c.loop-i.invariant.2 same c.play-e.ensures.effect c.raised-t.ensures,
+      counting_more _ _ _ _ _ _ _ _ _ c.loop-i.invariant.2 same c.play-row.ensures.effect c.raised-t.ensures,
     )
 
 pub returns : goal.returns
 returns c =
     let n = (counts_are _ _ c.requires.accepted).0 in
-    c.ending.ensures ∙ counted_all c.args.pool _ _ c.head_of-h.ensures c.table_of-table.ensures _ _ _ _ _ _ c.loop-i.invariant.2 c.pool_of-end.ensures (omega arith)
+    c.ending.ensures ∙ counted_all c.args.pool _ _ _ _ _ _ c.loop-i.invariant.2 c.pool_of-end.ensures (omega arith)

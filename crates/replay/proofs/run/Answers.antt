@@ -5,30 +5,30 @@ use lib.ListN.{length}
 use Rattle.trace.specs.Check.{trace_of}
 use Rattle.trace.proofs.Accept.{counts_are}
 use Rattle.pool.proofs.Sizes.{Sized}
-use Rattle.table.specs.Table.{pool_in}
+use Rattle.table.specs.Table.{pool_on}
 use Rattle.tally.specs.Rows.{row_numbers}
 use Rattle.effect.specs.ForCode.{Effect}
 use Rattle.effect.specs.Record.{record_of}
-use Rattle.replay.proofs.Running.{stored_length, counting_none, listing_none, counting_more, listing_more}
-use Rattle.replay.proofs.Counting.{count_plays, countable, played, row_batch, run_room, run_few, row_room, begun, begun_sized, room_first, counted_all, listed_all}
+use Rattle.replay.proofs.Running.{stored_length, counting_none, listing_none, counting_more, listing_more, listing_all}
+use Rattle.replay.proofs.Counting.{count_plays, countable, played, row_batch, run_room, run_few, row_room, counted_all}
 use borrow.Author.Rules.{rules}
 use Rattle.replay.proofs.run.Goals as goal
 
 pub loop-i-init : goal.loop-i-init
-loop-i-init c = (search rules, search rules, search rules, counting_none _ _ _, listing_none _ _ _ _ _)
+loop-i-init c = (search rules, search rules, search rules, counting_none _ _ _ _ c.bench_of-bench.ensures, listing_none _ _ _ _ _)
 
-pub play-e-requires : goal.play-e-requires
-play-e-requires c =
+pub play-row-requires : goal.play-row-requires
+play-row-requires c =
     let z : Sized c.args.pool = record { frames = search rules; access = search rules; write = search rules } in
     let g = c.loop-i.invariant in
-    let few = count_plays (pool_in c.head_of-h.result c.table_of-table.result c.args.pool.access c.args.pool.write) c.args.tally c.args.bytes.now c.args.summary (begun_sized c.args.pool _ _ c.head_of-h.ensures c.table_of-table.ensures z) (begun c.args.pool _ _ c.head_of-h.ensures c.table_of-table.ensures _ _ _ c.requires.0) _ _ _ c.loop-i-test.true g.3 _ c.record_at-record.ensures in
+    let few = count_plays c.args.pool c.args.tally c.args.bytes.now c.args.summary z c.requires.0 _ _ _ c.loop-i-test.true g.3 _ c.record_at-record.ensures in
     record {
       sound = few.sound;
       access = few.access;
       write = few.write;
       room = rw g.2
-          (run_room (pool_in c.head_of-h.result c.table_of-table.result c.args.pool.access c.args.pool.write) c.args.tally c.args.bytes.now c.args.summary (begun_sized c.args.pool _ _ c.head_of-h.ensures c.table_of-table.ensures z) (begun c.args.pool _ _ c.head_of-h.ensures c.table_of-table.ensures _ _ _ c.requires.0) _ _ _ c.loop-i-test.true g.3 _ c.record_at-record.ensures
-          (length c.args.rows.now) (length c.args.list.now) (room_first c.args.pool _ _ c.head_of-h.ensures c.table_of-table.ensures c.args.tally (trace_of c.args.bytes.now) (length c.args.rows.now) (length c.args.list.now) c.requires.1) _ _ _ _ _ g.4);
+          (run_room c.args.pool c.args.tally c.args.bytes.now c.args.summary z c.requires.0 _ _ _ c.loop-i-test.true g.3 _ c.record_at-record.ensures
+          (length c.args.rows.now) (length c.args.list.now) c.requires.1 _ _ _ _ _ g.4);
     }
 
 pub put_row-requires : goal.put_row-requires
@@ -36,42 +36,42 @@ put_row-requires c =
     let z : Sized c.args.pool = record { frames = search rules; access = search rules; write = search rules } in
     let g = c.loop-i.invariant in
     rw g.1
-    (row_room (pool_in c.head_of-h.result c.table_of-table.result c.args.pool.access c.args.pool.write) c.args.tally c.args.bytes.now c.args.summary (begun_sized c.args.pool _ _ c.head_of-h.ensures c.table_of-table.ensures z) (begun c.args.pool _ _ c.head_of-h.ensures c.table_of-table.ensures _ _ _ c.requires.0) _ _ _ c.loop-i-test.true g.3 _ c.record_at-record.ensures
-    (length c.args.rows.now) (length c.args.list.now) (room_first c.args.pool _ _ c.head_of-h.ensures c.table_of-table.ensures c.args.tally (trace_of c.args.bytes.now) (length c.args.rows.now) (length c.args.list.now) c.requires.1) _ _ _ _ _ g.4)
+    (row_room c.args.pool c.args.tally c.args.bytes.now c.args.summary z c.requires.0 _ _ _ c.loop-i-test.true g.3 _ c.record_at-record.ensures
+    (length c.args.rows.now) (length c.args.list.now) c.requires.1 _ _ _ _ _ g.4)
 
 pub raised-t-requires : goal.raised-t-requires
 raised-t-requires c =
     let z : Sized c.args.pool = record { frames = search rules; access = search rules; write = search rules } in
-    countable (pool_in c.head_of-h.result c.table_of-table.result c.args.pool.access c.args.pool.write) c.args.tally c.args.bytes.now c.args.summary (begun_sized c.args.pool _ _ c.head_of-h.ensures c.table_of-table.ensures z) (begun c.args.pool _ _ c.head_of-h.ensures c.table_of-table.ensures _ _ _ c.requires.0) _ _ _ c.loop-i-test.true c.loop-i.invariant.3 _ c.record_at-record.ensures _ c.play-e.ensures.effect
+    countable c.args.pool c.args.tally c.args.bytes.now c.args.summary z c.requires.0 _ _ _ c.loop-i-test.true c.loop-i.invariant.3 _ c.record_at-record.ensures _ c.play-row.ensures.effect
 
 pub overflow_add-at : goal.overflow_add-at
 overflow_add-at c =
     let z : Sized c.args.pool = record { frames = search rules; access = search rules; write = search rules } in
     let g = c.loop-i.invariant in
-    let few = run_few (pool_in c.head_of-h.result c.table_of-table.result c.args.pool.access c.args.pool.write) c.args.tally c.args.bytes.now c.args.summary (begun_sized c.args.pool _ _ c.head_of-h.ensures c.table_of-table.ensures z) (begun c.args.pool _ _ c.head_of-h.ensures c.table_of-table.ensures _ _ _ c.requires.0) _ _ _ c.loop-i-test.true g.3 _ c.record_at-record.ensures
-    (length c.args.rows.now) (length c.args.list.now) (room_first c.args.pool _ _ c.head_of-h.ensures c.table_of-table.ensures c.args.tally (trace_of c.args.bytes.now) (length c.args.rows.now) (length c.args.list.now) c.requires.1) _ _ _ _ _ g.4 in
-    let batch = row_batch (pool_in c.head_of-h.result c.table_of-table.result c.args.pool.access c.args.pool.write) c.args.tally c.args.bytes.now c.args.summary (begun_sized c.args.pool _ _ c.head_of-h.ensures c.table_of-table.ensures z) (begun c.args.pool _ _ c.head_of-h.ensures c.table_of-table.ensures _ _ _ c.requires.0) _ _ _ c.loop-i-test.true g.3 _ c.record_at-record.ensures _ c.play-e.ensures.effect in
+    let few = run_few c.args.pool c.args.tally c.args.bytes.now c.args.summary z c.requires.0 _ _ _ c.loop-i-test.true g.3 _ c.record_at-record.ensures
+    (length c.args.rows.now) (length c.args.list.now) c.requires.1 _ _ _ _ _ g.4 in
+    let batch = row_batch c.args.pool c.args.tally c.args.bytes.now c.args.summary z c.requires.0 _ _ _ c.loop-i-test.true g.3 _ c.record_at-record.ensures _ c.play-row.ensures.effect in
     omega arith
 
 pub loop-i-preserved : goal.loop-i-preserved
 loop-i-preserved c =
     let z : Sized c.args.pool = record { frames = search rules; access = search rules; write = search rules } in
     let g = c.loop-i.invariant in
-    let same = played (pool_in c.head_of-h.result c.table_of-table.result c.args.pool.access c.args.pool.write) c.args.tally c.args.bytes.now c.args.summary (begun_sized c.args.pool _ _ c.head_of-h.ensures c.table_of-table.ensures z) (begun c.args.pool _ _ c.head_of-h.ensures c.table_of-table.ensures _ _ _ c.requires.0) _ _ _ c.loop-i-test.true g.3 _ c.record_at-record.ensures in
-    let batch = row_batch (pool_in c.head_of-h.result c.table_of-table.result c.args.pool.access c.args.pool.write) c.args.tally c.args.bytes.now c.args.summary (begun_sized c.args.pool _ _ c.head_of-h.ensures c.table_of-table.ensures z) (begun c.args.pool _ _ c.head_of-h.ensures c.table_of-table.ensures _ _ _ c.requires.0) _ _ _ c.loop-i-test.true g.3 _ c.record_at-record.ensures _ c.play-e.ensures.effect in (
+    let same = played c.args.pool c.args.tally c.args.bytes.now c.args.summary z c.requires.0 _ _ _ c.loop-i-test.true g.3 _ c.record_at-record.ensures in
+    let batch = row_batch c.args.pool c.args.tally c.args.bytes.now c.args.summary z c.requires.0 _ _ _ c.loop-i-test.true g.3 _ c.record_at-record.ensures _ c.play-row.ensures.effect in (
       search rules,
-      stored_length c.loop-i.rows _ (row_numbers c.play-e.result.row) (4 * c.loop-i.i) _ c.put_row.ensures g.1,
-      stored_length c.loop-i.list _ (record_of (pool_in c.loop-i.h c.loop-i.table c.loop-i.access c.loop-i.write) c.record_at-record.result.page c.record_at-record.result.kind).written c.loop-i.at _ c.play-e.ensures.list g.2,
-      counting_more _ _ _ _ _ _ _ _ _ g.3 same c.play-e.ensures.effect c.raised-t.ensures,
-      listing_more _ _ _ _ _ _ _ _ _ _ g.4 same _ _ _ _ (ap (λ (x : Effect). x.row) c.play-e.ensures.effect) batch c.put_row.ensures c.play-e.ensures.list,
+      stored_length c.loop-i.rows _ (row_numbers c.play-row.result) (4 * c.loop-i.i) _ c.put_row.ensures g.1,
+      stored_length c.loop-i.list _ (record_of (pool_on c.loop-i.bench) c.record_at-record.result.page c.record_at-record.result.kind).written c.loop-i.at _ c.play-row.ensures.list g.2,
+      counting_more _ _ _ _ _ _ _ _ _ g.3 same c.play-row.ensures.effect c.raised-t.ensures,
+      listing_more _ _ _ _ _ _ _ _ _ _ g.4 same _ _ _ _ (ap (λ (x : Effect). x.row) c.play-row.ensures.effect) batch c.put_row.ensures c.play-row.ensures.list,
     )
 
 pub returns : goal.returns
 returns c =
     let n = (counts_are _ _ c.requires.0.accepted).0 in
-    let lists = listed_all c.args.pool _ _ c.head_of-h.ensures c.table_of-table.ensures _ _ _ _ _ _ _ _ c.loop-i.invariant.4 (omega arith) in
+    let lists = listing_all c.args.pool _ _ _ _ _ _ _ _ c.loop-i.invariant.4 (omega arith) in
     record {
-      answers = c.ending.ensures ∙ counted_all c.args.pool _ _ c.head_of-h.ensures c.table_of-table.ensures _ _ _ _ _ _ c.loop-i.invariant.3 c.pool_of-end.ensures (omega arith);
+      answers = c.ending.ensures ∙ counted_all c.args.pool _ _ _ _ _ _ c.loop-i.invariant.3 c.pool_of-end.ensures (omega arith);
       rows_hold = lists.0;
       written_hold = lists.1;
     }

@@ -6,7 +6,6 @@ use Rattle.pool.specs.declared.Pool.{Pool}
 use Rattle.pool.proofs.Sizes.{Sized}
 use Rattle.effect.specs.Record.{record_of}
 use Rattle.effect.specs.ForCode.{Plays}
-use Rattle.table.proofs.Held.{of_parts}
 use Rattle.replay.proofs.Stepping.{step_few, step_plays, step_countable}
 use Rattle.replay.proofs.step.Goals as goal
 
@@ -17,13 +16,13 @@ refused_row-none-requires c =
     let e = c.step_refusal-r.ensures in
     omega arith
 
-pub play-e-requires : goal.play-e-requires
-play-e-requires c =
+pub play-row-requires : goal.play-row-requires
+play-row-requires c =
     let z : Sized c.args.pool = record { frames = search rules; access = search rules; write = search rules } in
-    subst (λ (p : Pool). Plays p (record_of p c.args.page c.args.kind) 0 (length c.args.written.now)) (sym (of_parts c.args.pool _ _ c.head_of-h.ensures c.table_of-table.ensures))
+    subst (λ (p : Pool). Plays p (record_of p c.args.page c.args.kind) 0 (length c.args.written.now)) (sym c.bench_of-bench.ensures)
     (step_plays _ _ _ _ _ _ z c.step_refusal-r.ensures c.if-r-ne0.false)
 
 pub raised-after-requires : goal.raised-after-requires
 raised-after-requires c =
     let z : Sized c.args.pool = record { frames = search rules; access = search rules; write = search rules } in
-    step_countable c.args.pool c.args.tally c.args.page c.args.kind _ _ _ _ z c.step_refusal-r.ensures c.if-r-ne0.false (of_parts c.args.pool _ _ c.head_of-h.ensures c.table_of-table.ensures) c.play-e.ensures.effect
+    step_countable c.args.pool c.args.tally c.args.page c.args.kind _ _ _ _ z c.step_refusal-r.ensures c.if-r-ne0.false c.bench_of-bench.ensures c.play-row.ensures.effect

@@ -7,7 +7,10 @@ use Rattle.pool.specs.declared.Frame.{Frame}
 use Rattle.pool.specs.declared.Pool.{Pool}
 use Rattle.pool.specs.Pool.{frame_at, with_count}
 use Rattle.pool.proofs.Sound.{Sound}
+use Rattle.table.specs.declared.Bench.{Bench}
+use Rattle.table.specs.Table.{pool_on}
 use Rattle.victim.specs.Choice.{Choice, unpinned, unmoved}
+use Rattle.victim.specs.ForCode.{chosen_on, Chose}
 use Rattle.victim.specs.Clock.{rests, passed_count, passed, next_hand, sweep_from, sweep_of, rested_at, swept_choice, any_unpinned, some_unpinned, clock_choice}
 use Rattle.victim.proofs.clock.Falling.{dist_below, next_below, passed_unpinned, to_go, to_go_falls, sweep_stop, sweep_on}
 
@@ -101,10 +104,10 @@ module _ (p : Pool) (fs : List Frame) (h : ℕ) (s : Sweeping p fs h) where
 pub some_free : (p : Pool) (i : ℕ) → any_unpinned p.frames p.settings.frames ≡ Some i → some_unpinned p ≡ true
 some_free p i e = rw e
 
-pub way_swept : (p : Pool) (c : Choice) (i : ℕ) → any_unpinned p.frames p.settings.frames ≡ Some i → c ≡ swept_choice p → c ≡ clock_choice p
+pub way_swept : (p : Pool) (found : Option ℕ) (b : Bench) (i : ℕ) → any_unpinned p.frames p.settings.frames ≡ Some i → Chose p (swept_choice p) found b → Chose p (clock_choice p) found b
 unfolding clock_choice
-way_swept p c i e d = rw (e, d)
+way_swept p found b i e d = rw e d
 
-pub way_pinned : (p : Pool) (c : Choice) → any_unpinned p.frames p.settings.frames ≡ None → c ≡ unmoved p None → c ≡ clock_choice p
+pub way_pinned : (p : Pool) (b : Bench) → any_unpinned p.frames p.settings.frames ≡ None → pool_on b ≡ p → Chose p (clock_choice p) None b
 unfolding clock_choice
-way_pinned p c e d = rw (e, d)
+way_pinned p b e d = let c : chosen_on None b ≡ unmoved p None = ap (λ (q : Pool). unmoved q None) d in rw e (record { choice = c; left = d })

@@ -4,17 +4,17 @@ use Rattle.victim.specs.Clock.{any_unpinned}
 use Rattle.victim.proofs.clock.any_unpinned.Goals as goal
 
 pub loop-i-init : goal.loop-i-init
-loop-i-init c = (search rules, least_zero _ _)
+loop-i-init c = least_zero _ _
 
 pub returns-then-fr-eq0 : goal.returns-then-fr-eq0
 unfolding any_unpinned
 returns-then-fr-eq0 c =
-    sym (first_found _ _ _ c.loop-i-test.true c.loop-i.invariant.1 (rw c.frame_at-fr.ensures at (eq-eqb _ _ c.if-fr-eq0.true)))
+    sym (first_found _ _ _ c.loop-i-test.true c.loop-i.invariant (rw c.frame_at-fr.ensures at (eq-eqb _ _ c.if-fr-eq0.true)))
 
 pub loop-i-preserved : goal.loop-i-preserved
 loop-i-preserved c =
-    (search rules, least_skip _ _ _ (rw c.frame_at-fr.ensures at (ne_eqb _ _ c.if-fr-eq0.false)) ∙ c.loop-i.invariant.1)
+    least_skip _ _ _ (rw c.frame_at-fr.ensures at (ne_eqb _ _ c.if-fr-eq0.false)) ∙ c.loop-i.invariant
 
 pub returns : goal.returns
 unfolding any_unpinned
-returns c = let e : c.loop-i.i ≡ c.args.f = omega arith in sym (rw e at c.loop-i.invariant.1)
+returns c = let e : c.loop-i.i ≡ c.args.f = omega arith in sym (rw e at c.loop-i.invariant)
