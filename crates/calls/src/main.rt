@@ -5,13 +5,14 @@
 // for `write`, 0 for high; two that mean nothing. A case that is not whole or does not fit ends the run.
 #![tactic(auto)]
 
-ghost use Rattle.std.specs.Prelude.{◌≡◌, ◌<◌, ◌≤◌, length, IfOk};
+ghost use Rattle.std.specs.Prelude.{◌<◌};
 
 mod dump;
 
-use lines::{put_byte, put_bytes, put_next, read_full, say_text};
+use lines::{Spaced, Text, read_full};
 use pool::Pool;
-use std::io::{Read, Result};
+use refusal::answer_of;
+use std::io::{Read, Result, Write};
 use tally::Tally;
 use word::{Order, Word};
 
@@ -28,10 +29,26 @@ const BYTE_ROOM: usize = 16384;
 // The most cases.
 const TURNS: u32 = 1000000000;
 
-// A case but for its bytes.
+// A call on the pool that an image holds.
+#[derive(Clone, Copy)]
+enum PoolCall {
+    Write,
+    Check,
+    Step,
+    Replay,
+    Counts,
+}
+
+#[derive(Clone, Copy)]
+enum Call {
+    Read,
+    OnPool(PoolCall),
+}
+
+// A case but for its bytes. A number that no call has asks for nothing.
 #[derive(Clone, Copy)]
 struct Case {
-    call: u32,
+    call: Option<Call>,
     image: usize,
     trace: usize,
     rows: usize,
@@ -39,7 +56,7 @@ struct Case {
     tally: Tally,
     page: u32,
     kind: u16,
-    low_first: bool,
+    order: Order,
 }
 
 fn number(head: &[u8; 64], i: usize) -> u32
@@ -59,267 +76,131 @@ fn tally_in(head: &[u8; 64]) -> Tally {
     }
 }
 
+fn call_of(number: u32) -> Option<Call> {
+    match number {
+        0 => Some(Call::Read),
+        1 => Some(Call::OnPool(PoolCall::Write)),
+        2 => Some(Call::OnPool(PoolCall::Check)),
+        3 => Some(Call::OnPool(PoolCall::Step)),
+        4 => Some(Call::OnPool(PoolCall::Replay)),
+        5 => Some(Call::OnPool(PoolCall::Counts)),
+        _ => None,
+    }
+}
+
+fn order_of(number: u32) -> Order {
+    if number == 0 { Order::High } else { Order::Low }
+}
+
 fn case_in(head: &[u8; 64]) -> Case {
-    let tally = tally_in(head);
     Case {
-        call: number(head, 0),
+        call: call_of(number(head, 0)),
         image: number(head, 1) as usize,
         trace: number(head, 2) as usize,
         rows: number(head, 3) as usize,
         places: number(head, 4) as usize,
-        tally: tally,
+        tally: tally_in(head),
         page: number(head, 11),
         kind: (number(head, 12) % 65536) as u16,
-        low_first: number(head, 13) != 0,
+        order: order_of(number(head, 13)),
     }
 }
 
-fn input_space() -> [u8; INPUT_ROOM]
-    ensures { 60000 ≡ length result }
-{
-    [0; INPUT_ROOM]
-}
-
-// Memory to lend, the same at each case.
-fn rows_to_lend() -> [u32; ROW_ROOM]
-    ensures { 4096 ≡ length result }
-{
-    [7; ROW_ROOM]
-}
-
-fn list_to_lend() -> [u32; LIST_ROOM]
-    ensures { 1024 ≡ length result }
-{
-    [7; LIST_ROOM]
-}
-
-fn bytes_to_lend() -> [u8; BYTE_ROOM]
-    ensures { 16384 ≡ length result }
-{
-    [7; BYTE_ROOM]
-}
-
-// A count, cut to the room that there is.
-fn cut(n: usize, room: usize) -> usize
-    ensures { result ≤ room }
-{
-    if n < room { n } else { room }
-}
-
-fn order_of(low_first: bool) -> Order {
-    if low_first { Order::Low } else { Order::High }
-}
-
-// A line of a name and a number.
-fn put_line(
-    out: &impl Print,
-    text: &mut [u8; 4096],
-    at: usize,
-    name: &[u8],
-    n: u32,
-) -> Result<usize>
-    requires { at < 4096 }
-    ensures { IfOk result (λ next. next < 4096) }
-{
-    let named = put_bytes(out, text, at, name)?;
-    let next = put_next(out, text, named, n)?;
-    put_byte(out, text, next, b'\n')
-}
-
-// The lent places, those of the rows and of the written pages.
-fn put_rows(
-    out: &impl Print,
-    text: &mut [u8; 4096],
-    at: usize,
-    rows: &[u32; ROW_ROOM],
-    n: usize,
-) -> Result<usize>
-    requires { (at < 4096) × (n ≤ 4096) }
-    ensures { IfOk result (λ next. next < 4096) }
-{
-    dump::put_list(out, text, at, b"rows", rows, n)
-}
-
-fn put_list(
-    out: &impl Print,
-    text: &mut [u8; 4096],
-    at: usize,
-    list: &[u32; LIST_ROOM],
-    n: usize,
-) -> Result<usize>
-    requires { (at < 4096) × (n ≤ 1024) }
-    ensures { IfOk result (λ next. next < 4096) }
-{
-    dump::put_list(out, text, at, b"list", list, n)
-}
-
-fn try_read(out: &impl Print, text: &mut [u8; 4096], at: usize, image: &[u8]) -> Result<usize>
-    requires { at < 4096 }
-    ensures { IfOk result (λ next. next < 4096) }
-{
+fn try_read(text: &mut Text<'_, impl Print>, image: &[u8]) -> Result<()> {
     let opened = image::read(image);
-    let next = put_line(out, text, at, b"read", opened.refusal)?;
-    dump::put_pool(out, text, next, opened.pool)
+    writeln!(text, "read {}", opened.refusal)?;
+    dump::put_pool(text, &opened.pool)
 }
 
-fn try_write(
-    out: &impl Print,
-    text: &mut [u8; 4096],
-    at: usize,
-    pool: Pool,
-    order: Order,
-    room: usize,
-) -> Result<usize>
-    requires { (at < 4096) × (room ≤ 16384) }
-    ensures { IfOk result (λ next. next < 4096) }
-{
-    let mut lent = bytes_to_lend();
-    let refusal = image::write(pool, order, &mut lent[..room]);
-    let next = put_line(out, text, at, b"write", refusal)?;
-    dump::put_lent(out, text, next, &lent, room)
+fn try_write(text: &mut Text<'_, impl Print>, pool: Pool, case: &Case) -> Result<()> {
+    let mut lent = [7u8; BYTE_ROOM];
+    let room = case.places.min(BYTE_ROOM);
+    let refusal = image::write(pool, case.order, &mut lent[..room]);
+    writeln!(text, "write {refusal}")?;
+    writeln!(text, "bytes{}", Spaced(&lent[..room]))
 }
 
-fn try_step(
-    out: &impl Print,
-    text: &mut [u8; 4096],
-    at: usize,
-    pool: Pool,
-    c: Case,
-    places: usize,
-) -> Result<usize>
-    requires { (at < 4096) × (places ≤ 1024) }
-    ensures { IfOk result (λ next. next < 4096) }
-{
-    let mut list = list_to_lend();
-    let stepped = replay::step(pool, c.tally, c.page, c.kind, &mut list[0..places]);
-    let mut next = put_line(out, text, at, b"step", stepped.refusal)?;
-    next = dump::put_row(out, text, next, stepped.row)?;
-    next = put_list(out, text, next, &list, places)?;
-    next = dump::put_pool(out, text, next, stepped.pool)?;
-    dump::put_tally(out, text, next, stepped.tally)
+fn try_step(text: &mut Text<'_, impl Print>, pool: Pool, case: &Case) -> Result<()> {
+    let mut lent = [7u32; LIST_ROOM];
+    let list = &mut lent[..case.places.min(LIST_ROOM)];
+    let stepped = replay::step(pool, case.tally, case.page, case.kind, list);
+    writeln!(text, "step {}", stepped.refusal)?;
+    dump::put_row(text, stepped.row)?;
+    writeln!(text, "list{}", Spaced(list))?;
+    dump::put_pool(text, &stepped.pool)?;
+    dump::put_tally(text, stepped.tally)
 }
 
 fn try_replay(
-    out: &impl Print,
-    text: &mut [u8; 4096],
-    at: usize,
+    text: &mut Text<'_, impl Print>,
     pool: Pool,
-    tally: Tally,
+    case: &Case,
     trace: &[u8],
-    room: usize,
-    places: usize,
-) -> Result<usize>
-    requires { (at < 4096) × (room ≤ 4096) × (places ≤ 1024) }
-    ensures { IfOk result (λ next. next < 4096) }
-{
-    let mut rows = rows_to_lend();
-    let mut list = list_to_lend();
-    let ended = replay::replay(pool, tally, trace, &mut rows[0..room], &mut list[0..places]);
-    let mut next = put_line(out, text, at, b"replay", ended.refusal)?;
-    next = put_rows(out, text, next, &rows, room)?;
-    next = put_list(out, text, next, &list, places)?;
-    next = dump::put_pool(out, text, next, ended.pool)?;
-    dump::put_tally(out, text, next, ended.tally)
+) -> Result<()> {
+    let mut lent_rows = [7u32; ROW_ROOM];
+    let mut lent_list = [7u32; LIST_ROOM];
+    let rows = &mut lent_rows[..case.rows.min(ROW_ROOM)];
+    let list = &mut lent_list[..case.places.min(LIST_ROOM)];
+    let ended = replay::replay(pool, case.tally, trace, rows, list);
+    writeln!(text, "replay {}", ended.refusal)?;
+    writeln!(text, "rows{}", Spaced(rows))?;
+    writeln!(text, "list{}", Spaced(list))?;
+    dump::put_pool(text, &ended.pool)?;
+    dump::put_tally(text, ended.tally)
 }
 
 fn try_counts(
-    out: &impl Print,
-    text: &mut [u8; 4096],
-    at: usize,
+    text: &mut Text<'_, impl Print>,
     pool: Pool,
-    tally: Tally,
+    case: &Case,
     trace: &[u8],
-) -> Result<usize>
-    requires { at < 4096 }
-    ensures { IfOk result (λ next. next < 4096) }
-{
-    let ended = replay::counts(pool, tally, trace);
-    let mut next = put_line(out, text, at, b"counts", ended.refusal)?;
-    next = dump::put_pool(out, text, next, ended.pool)?;
-    dump::put_tally(out, text, next, ended.tally)
+) -> Result<()> {
+    let ended = replay::counts(pool, case.tally, trace);
+    writeln!(text, "counts {}", ended.refusal)?;
+    dump::put_pool(text, &ended.pool)?;
+    dump::put_tally(text, ended.tally)
 }
 
-// The calls on a pool, sound or not.
-fn try_pool(
-    out: &impl Print,
-    text: &mut [u8; 4096],
-    at: usize,
-    c: Case,
-    pool: Pool,
-    trace: &[u8],
-) -> Result<usize>
-    requires { at < 4096 }
-    ensures { IfOk result (λ next. next < 4096) }
-{
-    let call = c.call;
-    let places = cut(c.places, LIST_ROOM);
-    match call {
-        1 => try_write(
-            out,
-            text,
-            at,
-            pool,
-            order_of(c.low_first),
-            cut(c.places, BYTE_ROOM),
-        ),
-        2 => put_line(out, text, at, b"check", refusal::answer_of(pool::check(&pool))),
-        3 => try_step(out, text, at, pool, c, places),
-        4 => try_replay(
-            out,
-            text,
-            at,
-            pool,
-            c.tally,
-            trace,
-            cut(c.rows, ROW_ROOM),
-            places,
-        ),
-        _ => try_counts(out, text, at, pool, c.tally, trace),
-    }
-}
-
+// A call on the pool that the image holds, sound or not.
 fn try_held(
-    out: &impl Print,
-    text: &mut [u8; 4096],
-    at: usize,
-    c: Case,
+    text: &mut Text<'_, impl Print>,
+    call: PoolCall,
+    case: &Case,
     image: &[u8],
     trace: &[u8],
-) -> Result<usize>
-    requires { at < 4096 }
-    ensures { IfOk result (λ next. next < 4096) }
-{
+) -> Result<()> {
     let opened = image::held(image);
     if opened.refusal != 0 {
-        return put_line(out, text, at, b"held", opened.refusal);
+        return writeln!(text, "held {}", opened.refusal);
     }
-    try_pool(out, text, at, c, opened.pool, trace)
+    let pool = opened.pool;
+    match call {
+        PoolCall::Write => try_write(text, pool, case),
+        PoolCall::Check => writeln!(text, "check {}", answer_of(pool::check(&pool))),
+        PoolCall::Step => try_step(text, pool, case),
+        PoolCall::Replay => try_replay(text, pool, case, trace),
+        PoolCall::Counts => try_counts(text, pool, case, trace),
+    }
 }
 
 fn try_call(
-    out: &impl Print,
-    text: &mut [u8; 4096],
-    at: usize,
-    c: Case,
+    text: &mut Text<'_, impl Print>,
+    case: &Case,
     image: &[u8],
     trace: &[u8],
-) -> Result<usize>
-    requires { at < 4096 }
-    ensures { IfOk result (λ next. next < 4096) }
-{
-    let call = c.call;
-    match call {
-        0 => try_read(out, text, at, image),
-        1..=5 => try_held(out, text, at, c, image, trace),
-        _ => Ok(at),
+) -> Result<()> {
+    match case.call {
+        None => Ok(()),
+        Some(Call::Read) => try_read(text, image),
+        Some(Call::OnPool(call)) => try_held(text, call, case, image, trace),
     }
 }
 
-fn try_case(out: &impl Print, turn: u32, c: Case, image: &[u8], trace: &[u8]) -> Result<()> {
-    let mut text = [0u8; 4096];
-    let begun = put_line(out, &mut text, 0, b"case", turn)?;
-    let end = try_call(out, &mut text, begun, c, image, trace)?;
-    say_text(out, text, end)
+fn try_case(out: &impl Print, turn: u32, case: &Case, image: &[u8], trace: &[u8]) -> Result<()> {
+    let mut text = Text::new(out);
+    writeln!(text, "case {turn}")?;
+    try_call(&mut text, case, image, trace)?;
+    text.flush()
 }
 
 // Works the next case, once all of it is read.
@@ -334,25 +215,23 @@ fn next_case(
     if read_full(from, &mut head)? < 64 {
         return Ok(false);
     }
-    let c = case_in(&head);
-    let image_size = c.image;
-    let trace_size = c.trace;
-    if images.len() < image_size || traces.len() < trace_size {
+    let case = case_in(&head);
+    if images.len() < case.image || traces.len() < case.trace {
         return Ok(false);
     }
-    let image = &mut images[..image_size];
-    let trace = &mut traces[..trace_size];
-    if read_full(from, image)? < image_size || read_full(from, trace)? < trace_size {
+    let image = &mut images[..case.image];
+    let trace = &mut traces[..case.trace];
+    if read_full(from, image)? < case.image || read_full(from, trace)? < case.trace {
         return Ok(false);
     }
-    try_case(out, turn, c, image, trace)?;
+    try_case(out, turn, &case, image, trace)?;
     Ok(true)
 }
 
 // The turns are counted, since nothing says that the input ends.
 fn main(rt: HostRuntime) -> Result<()> {
-    let mut images = input_space();
-    let mut traces = input_space();
+    let mut images = [0; INPUT_ROOM];
+    let mut traces = [0; INPUT_ROOM];
     let mut input = rt.stdin();
     for turn in 0..TURNS {
         if !next_case(&rt, &mut input, turn, &mut images, &mut traces)? {

@@ -3,23 +3,20 @@ ghost use Rattle.curve.specs.Curve.{NeverRises};
 
 use crate::work;
 use files::{Status, printed};
-use lines::{put_byte, put_long, put_next};
-use std::io::Result;
+use lines::Text;
+use std::io::{Result, Write};
 
 // A line for each size: the frames, then the misses. The last line says that these never rise.
 fn say_sizes(out: &impl Print, misses: &[u32; curve::SIZES]) -> Result<()>
     requires { NeverRises misses.now }
 {
-    let mut text = [0u8; 4096];
-    let mut at: usize = 0;
-    for i in 0..curve::SIZES {
-        at = put_long(out, &mut text, at, i as u64 + 1)?;
-        at = put_next(out, &mut text, at, misses[i])?;
-        at = put_byte(out, &mut text, at, b'\n')?;
+    let mut text = Text::new(out);
+    for (frames, count) in (1u32..).zip(misses) {
+        writeln!(text, "{frames} {count}")?;
     }
-    at = picture::put_never_rises(out, &mut text, at, misses)?;
-    at = put_byte(out, &mut text, at, b'\n')?;
-    lines::say_text(out, text, at)
+    picture::put_never_rises(&mut text, misses)?;
+    writeln!(text)?;
+    text.flush()
 }
 
 fn draw(out: &impl Print, bytes: &[u8], misses: &[u32; curve::SIZES]) -> Result<()>

@@ -2,8 +2,8 @@
 use crate::{carry, sizes};
 use amend::Imported;
 use files::{Status, front, printed, spaces};
-use lines::{say, say_first, say_number, say_refused};
-use std::io::Result;
+use lines::{Spaced, Text, say, say_refused};
+use std::io::{Result, Write};
 use text::Exported;
 use wish::Wish;
 use words::Request;
@@ -65,27 +65,26 @@ fn export(rt: &HostRuntime, bytes: &[u8]) -> Status {
 }
 
 // A line of a quote, with so many frames.
-fn quote_size(out: &impl Print, bytes: &[u8], wish: Wish, frames: u16) -> Result<()> {
+fn put_size(text: &mut Text<'_, impl Print>, bytes: &[u8], wish: Wish, frames: u16) -> Result<()> {
     let numbers = amend::quote_line(bytes, wish, frames as u64);
-    say_first(out, frames as u64)?;
-    lines::say_places(out, &numbers, 0, amend::QUOTE_NUMBERS)?;
-    say(out, b"\n")
+    writeln!(text, "{frames}{}", Spaced(&numbers))
 }
 
 fn quote_sizes(out: &impl Print, bytes: &[u8], wish: Wish, own: u16) -> Result<()> {
-    say(
-        out,
-        b"frames lru-misses lru-written clock-misses clock-written watt-misses watt-written\n",
+    let mut text = Text::new(out);
+    writeln!(
+        text,
+        "frames lru-misses lru-written clock-misses clock-written watt-misses watt-written"
     )?;
     let mut size = amend::next_size(own, 0);
     for _ in 0..QUOTE_LINES {
         if size == 0 {
-            return Ok(());
+            break;
         }
-        quote_size(out, bytes, wish, size)?;
+        put_size(&mut text, bytes, wish, size)?;
         size = amend::next_size(own, size);
     }
-    Ok(())
+    text.flush()
 }
 
 fn quote(rt: &HostRuntime, bytes: &[u8], wish: Wish) -> Status {
@@ -102,9 +101,7 @@ fn quote(rt: &HostRuntime, bytes: &[u8], wish: Wish) -> Status {
 
 // What is said of a text's first bad line.
 fn say_bad_line(out: &impl Print, n: usize) -> Result<()> {
-    say(out, b"line")?;
-    say_number(out, n as u64)?;
-    say(out, b" refused\n")
+    println!(out; "line {n} refused")
 }
 
 fn import_text(rt: &HostRuntime, text: &[u8], request: Request) -> Status {

@@ -9,14 +9,11 @@ ghost use Rattle.image.specs.Image.{image_of};
 ghost use Rattle.replay.specs.Calls.{counts_of};
 ghost use Rattle.listing.specs.Fresh.{fresh_for};
 
-use lines::{
-    say, say_bool, say_first, say_image_refused, say_line, say_number, say_order, say_places,
-    say_refused, say_table,
-};
+use lines::{Spaced, Text, say_image_refused, say_refused};
 use pool::{Frame, Pool};
 use replay::Ended;
 use settings::Settings;
-use std::io::Result;
+use std::io::{Result, Write};
 use tally::Tally;
 use trace::Summary;
 use word::Order;
@@ -54,131 +51,137 @@ pub fn fresh_for(bytes: &[u8]) -> Pool
     }
 }
 
-// A count, kept to the places that are there: its type allows more than a replay gives.
-fn kept(count: usize, places: usize) -> usize
-    ensures { result ≤ places }
-{
-    if count < places { count } else { places }
+// The rows of a replay, each on a line.
+fn put_rows(text: &mut Text<'_, impl Print>, rows: &[u32; ROWS], count: u32) -> Result<()> {
+    writeln!(text, "rows {count}")?;
+    let (rows, _) = rows.as_chunks::<4>();
+    for row in rows.iter().take(count as usize) {
+        writeln!(text, "{} {} {} {}", row[0], row[1], row[2], row[3])?;
+    }
+    Ok(())
 }
 
-fn say_rows(out: &impl Print, rows: &[u32; ROWS], count: u32) -> Result<()> {
-    say_line(out, b"rows", count as u64)?;
-    say_table(out, rows, kept(count as usize * 4, ROWS), 4)
+// The pages that were written, each on a line.
+fn put_written(text: &mut Text<'_, impl Print>, pages: &[u32; WRITTEN], count: u32) -> Result<()> {
+    writeln!(text, "written {count}")?;
+    for page in pages.iter().take(count as usize) {
+        writeln!(text, "{page}")?;
+    }
+    Ok(())
 }
 
-fn say_written(out: &impl Print, written: &[u32; WRITTEN], count: u32) -> Result<()> {
-    say_line(out, b"written", count as u64)?;
-    say_table(out, written, kept(count as usize, WRITTEN), 1)
+// The first n entries of a log, newest first. A type allows more than there are places.
+fn put_log(text: &mut Text<'_, impl Print>, log: &[u32], n: u8) -> Result<()> {
+    let entries = &log[..log.len().min(usize::from(n))];
+    write!(text, " :{}", Spaced(entries))
 }
 
-fn say_fields(out: &impl Print, fr: Frame) -> Result<()> {
-    say_first(out, fr.page as u64)?;
-    say_bool(out, fr.dirty)?;
-    say_number(out, fr.pins as u64)?;
-    say_number(out, fr.count as u64)?;
-    say_number(out, fr.last as u64)
+// A frame in use, with the places of its logs.
+fn put_frame(
+    text: &mut Text<'_, impl Print>,
+    frame: &Frame,
+    access: &[u32],
+    write: &[u32],
+) -> Result<()> {
+    write!(
+        text,
+        "{} {} {} {} {}",
+        frame.page,
+        u8::from(frame.dirty),
+        frame.pins,
+        frame.count,
+        frame.last
+    )?;
+    put_log(text, access, frame.accesses)?;
+    put_log(text, write, frame.writes)?;
+    writeln!(text)
 }
 
-// The log of n entries in the `room` places from `at` on, newest first.
-fn say_log(out: &impl Print, l: &[u32], at: usize, room: usize, n: u8) -> Result<()>
-    requires { at + room ≤ length l.now }
-{
-    say(out, b" :")?;
-    say_places(out, l, at, kept(n as usize, room))
-}
-
-// The frames in use. The logs are lent from here, so that the pool is not copied for each frame.
-fn say_frames(out: &impl Print, p: Pool) -> Result<()> {
-    for i in 0..128 {
-        let fr = p.frames[i];
-        if fr.used {
-            say_fields(out, fr)?;
-            say_log(out, &p.access, i * 8, 8, fr.accesses)?;
-            say_log(out, &p.write, i * 4, 4, fr.writes)?;
-            say(out, b"\n")?;
+fn put_frames(text: &mut Text<'_, impl Print>, p: &Pool) -> Result<()> {
+    let logs = p.access.chunks(8).zip(p.write.chunks(4));
+    for (frame, (access, write)) in p.frames.iter().zip(logs) {
+        if frame.used {
+            put_frame(text, frame, access, write)?;
         }
     }
     Ok(())
 }
 
-fn say_pool(out: &impl Print, p: Pool) -> Result<()> {
-    say(out, b"pool")?;
-    say_number(out, p.k as u64)?;
-    say_number(out, p.hand as u64)?;
-    say_number(out, p.sampler as u64)?;
-    say(out, b"\n")?;
-    say_line(out, b"frames", image::used_frames(p) as u64)?;
-    say_frames(out, p)
-}
-
-// The first n letters. They come by value, so that their number is known.
-fn say_letters(out: &impl Print, letters: [u8; 16], n: usize) -> Result<()>
-    requires { n ≤ 16 }
-{
-    say(out, &letters[0..n])
+fn put_pool(text: &mut Text<'_, impl Print>, p: &Pool) -> Result<()> {
+    writeln!(text, "pool {} {} {}", p.k, p.hand, p.sampler)?;
+    writeln!(text, "frames {}", image::used_frames(*p))?;
+    put_frames(text, p)
 }
 
 // The line of a rule's name.
-fn say_policy(out: &impl Print, rule: u16) -> Result<()> {
+fn put_policy(text: &mut Text<'_, impl Print>, rule: u16) -> Result<()> {
     let name = victim::name_of(rule);
-    let letters = name.bytes;
-    say(out, b"policy ")?;
-    say_letters(out, letters, name.length)?;
-    say(out, b"\n")
+    write!(text, "policy ")?;
+    text.write_all(&name.bytes[..name.length])?;
+    writeln!(text)
 }
 
-// A count by its name, in the order of the counts.
-fn say_count(out: &impl Print, i: usize, n: u64) -> Result<()> {
-    match i {
-        0 => say_line(out, b"hits", n),
-        1 => say_line(out, b"misses", n),
-        2 => say_line(out, b"evictions", n),
-        3 => say_line(out, b"batches", n),
-        4 => say_line(out, b"written", n),
-        _ => say_line(out, b"refused", n),
-    }
-}
-
-fn say_counts(out: &impl Print, t: Tally) -> Result<()> {
-    let l = tally::numbers(t);
-    for i in 0..tally::COUNTS {
-        say_count(out, i, l[i] as u64)?;
-    }
-    Ok(())
+fn put_counts(text: &mut Text<'_, impl Print>, t: Tally) -> Result<()> {
+    writeln!(text, "hits {}", t.hits)?;
+    writeln!(text, "misses {}", t.misses)?;
+    writeln!(text, "evictions {}", t.evictions)?;
+    writeln!(text, "batches {}", t.batches)?;
+    writeln!(text, "written {}", t.written)?;
+    writeln!(text, "refused {}", t.refused)
 }
 
 // The sheet of a replay to counts.
 pub fn say_sheet(out: &impl Print, settings: Settings, records: u32, tally: Tally) -> Result<()> {
-    say_policy(out, settings.rule)?;
-    say_line(out, b"frames", settings.frames as u64)?;
-    say_line(out, b"records", records as u64)?;
-    say_counts(out, tally)
+    let mut text = Text::new(out);
+    put_policy(&mut text, settings.rule)?;
+    writeln!(text, "frames {}", settings.frames)?;
+    writeln!(text, "records {records}")?;
+    put_counts(&mut text, tally)?;
+    text.flush()
 }
 
-fn say_settings(out: &impl Print, s: Settings) -> Result<()> {
-    say_policy(out, s.rule)?;
-    say_line(out, b"frames", s.frames as u64)?;
-    say_line(out, b"batch", s.batch as u64)?;
-    say_line(out, b"cap", s.cap as u64)?;
-    say_line(out, b"sample", s.sample as u64)?;
-    say_line(out, b"weight", s.weight as u64)?;
-    say_line(out, b"epoch", s.span as u64)?;
-    say_line(out, b"seed", s.seed as u64)
-}
-
-fn say_order_line(out: &impl Print, order: Order) -> Result<()> {
-    say(out, b"order")?;
-    say_order(out, order)?;
-    say(out, b"\n")
+fn put_settings(text: &mut Text<'_, impl Print>, s: Settings) -> Result<()> {
+    put_policy(text, s.rule)?;
+    writeln!(text, "frames {}", s.frames)?;
+    writeln!(text, "batch {}", s.batch)?;
+    writeln!(text, "cap {}", s.cap)?;
+    writeln!(text, "sample {}", s.sample)?;
+    writeln!(text, "weight {}", s.weight)?;
+    writeln!(text, "epoch {}", s.span)?;
+    writeln!(text, "seed {}", s.seed)
 }
 
 fn say_summary(out: &impl Print, summary: Summary, writes: u32) -> Result<()> {
-    let order = summary.order;
-    say_order_line(out, order)?;
-    let settings = summary.settings;
-    say_settings(out, settings)?;
-    say_line(out, b"records", summary.count as u64)?;
-    say_line(out, b"writes", writes as u64)
+    let mut text = Text::new(out);
+    writeln!(text, "order {}", summary.order)?;
+    put_settings(&mut text, summary.settings)?;
+    writeln!(text, "records {}", summary.count)?;
+    writeln!(text, "writes {writes}")?;
+    text.flush()
+}
+
+fn say_image(out: &impl Print, order: Order, pool: &Pool) -> Result<()> {
+    let mut text = Text::new(out);
+    writeln!(text, "order {order}")?;
+    put_settings(&mut text, pool.settings)?;
+    put_pool(&mut text, pool)?;
+    text.flush()
+}
+
+fn say_listing(
+    out: &impl Print,
+    records: u32,
+    rows: &[u32; ROWS],
+    pages: u32,
+    written: &[u32; WRITTEN],
+    ended: &Ended,
+) -> Result<()> {
+    let mut text = Text::new(out);
+    put_rows(&mut text, rows, records)?;
+    put_written(&mut text, written, pages)?;
+    put_pool(&mut text, &ended.pool)?;
+    put_counts(&mut text, ended.tally)?;
+    text.flush()
 }
 
 // Prints what a trace is, or that it is refused, and answers the refusal or 0.
@@ -209,11 +212,7 @@ pub fn inspect_image(out: &impl Print, bytes: &[u8]) -> Result<u32>
         say_image_refused(out, opened.refusal)?;
         return Ok(opened.refusal);
     }
-    let pool = opened.pool;
-    let settings = pool.settings;
-    say_order_line(out, image::order_of(bytes))?;
-    say_settings(out, settings)?;
-    say_pool(out, pool)?;
+    say_image(out, image::order_of(bytes), &opened.pool)?;
     Ok(opened.refusal)
 }
 
@@ -227,8 +226,7 @@ pub fn sheet(out: &impl Print, pool: Pool, tally: Tally, bytes: &[u8]) -> Result
         return Ok(ended);
     }
     let after = ended.pool;
-    let settings = after.settings;
-    say_sheet(out, settings, count_of(bytes), ended.tally)?;
+    say_sheet(out, after.settings, count_of(bytes), ended.tally)?;
     Ok(ended)
 }
 
@@ -244,13 +242,7 @@ pub fn list(out: &impl Print, pool: Pool, tally: Tally, bytes: &[u8]) -> Result<
         say_refused(out, ended.refusal)?;
         return Ok(ended);
     }
-    say_rows(out, &rows, count_of(bytes))?;
-    say_written(
-        out,
-        &written,
-        ended.tally.written.wrapping_sub(tally.written),
-    )?;
-    say_pool(out, ended.pool)?;
-    say_counts(out, ended.tally)?;
+    let pages = ended.tally.written.wrapping_sub(tally.written);
+    say_listing(out, count_of(bytes), &rows, pages, &written, &ended)?;
     Ok(ended)
 }

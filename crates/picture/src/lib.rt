@@ -1,404 +1,160 @@
-// The curve as a picture, in SVG. A function that puts a part of the text answers the place after it.
+// The curve as a picture, in SVG.
 #![tactic(auto)]
 
-ghost use Rattle.std.specs.Prelude.{◌≤◌, ◌<◌, IfOk};
+ghost use Rattle.std.specs.Prelude.{◌≤◌};
 ghost use Rattle.curve.specs.Curve.{NeverRises};
 
-use lines::{put_byte, put_bytes, put_long};
-use scale::{misses_with, tick_for, x_for, y_for};
-use std::io::Result;
+use lines::Text;
+use scale::{misses_with, tick_for, ticks_for, x_for, y_for};
+use std::io::{Result, Write};
 
-// The frames' axis is marked at 1 and at eight sizes more.
-const MARKS: u16 = 9;
+// The frames at the marks of their axis.
+const MARKS: [u16; 9] = [1, 16, 32, 48, 64, 80, 96, 112, 128];
 
-// A number between two texts.
-fn put_within(
-    out: &impl Print,
-    text: &mut [u8; 4096],
-    at: usize,
-    before: &[u8],
-    n: u64,
-    after: &[u8],
-) -> Result<usize>
-    requires { at < 4096 }
-    ensures { IfOk result (λ next. next < 4096) }
-{
-    let begun = put_bytes(out, text, at, before)?;
-    let counted = put_long(out, text, begun, n)?;
-    put_bytes(out, text, counted, after)
-}
-
-// Two numbers, the first after a text and before another, the second before a third.
-fn put_two(
-    out: &impl Print,
-    text: &mut [u8; 4096],
-    at: usize,
-    before: &[u8],
-    a: u64,
-    between: &[u8],
-    b: u64,
-    after: &[u8],
-) -> Result<usize>
-    requires { at < 4096 }
-    ensures { IfOk result (λ next. next < 4096) }
-{
-    let begun = put_within(out, text, at, before, a, between)?;
-    let counted = put_long(out, text, begun, b)?;
-    put_bytes(out, text, counted, after)
-}
-
-fn put_head(out: &impl Print, text: &mut [u8; 4096], at: usize, records: u32) -> Result<usize>
-    requires { at < 4096 }
-    ensures { IfOk result (λ next. next < 4096) }
-{
-    put_within(
-        out,
+fn put_head(text: &mut Text<'_, impl Print>, records: u32) -> Result<()> {
+    write!(
         text,
-        at,
-        b"<svg xmlns=\"http://www.w3.org/2000/svg\" width=\"180mm\" height=\"115mm\" viewBox=\"0 0 1800 1150\" \
+        "<svg xmlns=\"http://www.w3.org/2000/svg\" width=\"180mm\" height=\"115mm\" viewBox=\"0 0 1800 1150\" \
         font-family=\"sans-serif\" font-size=\"32\">\n\
         <title>LRU misses by pool size</title>\n\
         <rect width=\"1800\" height=\"1150\" fill=\"white\"/>\n\
         <text x=\"200\" y=\"64\" font-size=\"48\">LRU misses by pool size</text>\n\
-        <text x=\"200\" y=\"112\">records ",
-        records as u64,
-        b"</text>\n",
+        <text x=\"200\" y=\"112\">records {records}</text>\n"
     )
 }
 
-// Line t of the misses.
-fn put_line(out: &impl Print, text: &mut [u8; 4096], at: usize, most: u32, t: u64) -> Result<usize>
-    requires { (at < 4096) × (t ≤ 10) }
-    ensures { IfOk result (λ next. next < 4096) }
-{
-    let y = y_for(most, tick_for(most, t));
-    put_within(out, text, at, b"<path d=\"M200 ", y, b"H1724\"/>\n")
-}
-
-fn put_lines(out: &impl Print, text: &mut [u8; 4096], at: usize, most: u32) -> Result<usize>
-    requires { at < 4096 }
-    ensures { IfOk result (λ next. next < 4096) }
-{
-    let ticks = scale::ticks_for(most);
-    let mut next = at;
-    for t in 1..=ticks {
-        next = put_line(out, text, next, most, t)?;
+// The lines of the misses.
+fn put_lines(text: &mut Text<'_, impl Print>, most: u32) -> Result<()> {
+    for t in 1..=ticks_for(most) {
+        let y = y_for(most, tick_for(most, t));
+        writeln!(text, "<path d=\"M200 {y}H1724\"/>")?;
     }
-    Ok(next)
+    Ok(())
 }
 
-// The number of line t, at its left.
-fn put_label(out: &impl Print, text: &mut [u8; 4096], at: usize, most: u32, t: u64) -> Result<usize>
-    requires { (at < 4096) × (t ≤ 10) }
-    ensures { IfOk result (λ next. next < 4096) }
-{
-    let misses = tick_for(most, t);
-    let y = y_for(most, misses) + 11;
-    put_two(
-        out,
-        text,
-        at,
-        b"<text x=\"180\" y=\"",
-        y,
-        b"\">",
-        misses,
-        b"</text>\n",
-    )
-}
-
-fn put_labels(out: &impl Print, text: &mut [u8; 4096], at: usize, most: u32) -> Result<usize>
-    requires { at < 4096 }
-    ensures { IfOk result (λ next. next < 4096) }
-{
-    let ticks = scale::ticks_for(most);
-    let mut next = at;
-    for t in 0..=ticks {
-        next = put_label(out, text, next, most, t)?;
+// The number of each line, and of the axis, at its left.
+fn put_labels(text: &mut Text<'_, impl Print>, most: u32) -> Result<()> {
+    for t in 0..=ticks_for(most) {
+        let misses = tick_for(most, t);
+        let y = y_for(most, misses) + 11;
+        writeln!(text, "<text x=\"180\" y=\"{y}\">{misses}</text>")?;
     }
-    Ok(next)
+    Ok(())
 }
 
-fn put_grid(out: &impl Print, text: &mut [u8; 4096], at: usize, most: u32) -> Result<usize>
-    requires { at < 4096 }
-    ensures { IfOk result (λ next. next < 4096) }
-{
-    let begun = put_bytes(
-        out,
-        text,
-        at,
-        b"<g fill=\"none\" stroke=\"#bbb\" stroke-width=\"2\">\n",
-    )?;
-    let lined = put_lines(out, text, begun, most)?;
-    let parted = put_bytes(out, text, lined, b"</g>\n<g text-anchor=\"end\">\n")?;
-    let labelled = put_labels(out, text, parted, most)?;
-    put_bytes(out, text, labelled, b"</g>\n")
+fn put_grid(text: &mut Text<'_, impl Print>, most: u32) -> Result<()> {
+    writeln!(text, "<g fill=\"none\" stroke=\"#bbb\" stroke-width=\"2\">")?;
+    put_lines(text, most)?;
+    write!(text, "</g>\n<g text-anchor=\"end\">\n")?;
+    put_labels(text, most)?;
+    writeln!(text, "</g>")
 }
 
-// The frames at mark i of their axis.
-fn marked(i: u16) -> u16
-    requires { i < 9 }
-{
-    if i == 0 { 1 } else { 16 * i }
-}
-
-fn put_size(out: &impl Print, text: &mut [u8; 4096], at: usize, frames: u16) -> Result<usize>
-    requires { at < 4096 }
-    ensures { IfOk result (λ next. next < 4096) }
-{
-    put_two(
-        out,
-        text,
-        at,
-        b"<text x=\"",
-        x_for(frames),
-        b"\" y=\"990\">",
-        frames as u64,
-        b"</text>\n",
-    )
-}
-
-fn put_sizes(out: &impl Print, text: &mut [u8; 4096], at: usize) -> Result<usize>
-    requires { at < 4096 }
-    ensures { IfOk result (λ next. next < 4096) }
-{
-    let mut next = at;
-    for i in 0..MARKS {
-        next = put_size(out, text, next, marked(i))?;
+fn put_sizes(text: &mut Text<'_, impl Print>) -> Result<()> {
+    for frames in MARKS {
+        let x = x_for(frames);
+        writeln!(text, "<text x=\"{x}\" y=\"990\">{frames}</text>")?;
     }
-    Ok(next)
+    Ok(())
 }
 
 // The words for a curve that never rises. They can be put for no other.
-pub fn put_never_rises(
-    out: &impl Print,
-    text: &mut [u8; 4096],
-    at: usize,
-    misses: &[u32; 128],
-) -> Result<usize>
-    requires { (at < 4096) × NeverRises misses.now }
-    ensures { IfOk result (λ next. next < 4096) }
+pub fn put_never_rises(text: &mut Text<'_, impl Print>, misses: &[u32; 128]) -> Result<()>
+    requires { NeverRises misses.now }
 {
-    put_bytes(out, text, at, b"never rises")
+    text.write_all(b"never rises")
 }
 
 // What stands below the frames' axis.
-fn put_below(
-    out: &impl Print,
-    text: &mut [u8; 4096],
-    at: usize,
-    misses: &[u32; 128],
-) -> Result<usize>
-    requires { (at < 4096) × NeverRises misses.now }
-    ensures { IfOk result (λ next. next < 4096) }
+fn put_below(text: &mut Text<'_, impl Print>, misses: &[u32; 128]) -> Result<()>
+    requires { NeverRises misses.now }
 {
-    let named = put_bytes(
-        out,
+    write!(
         text,
-        at,
-        b"<text x=\"962\" y=\"1050\">frames</text>\n\
-        <text x=\"962\" y=\"1110\">",
+        "<text x=\"962\" y=\"1050\">frames</text>\n\
+        <text x=\"962\" y=\"1110\">"
     )?;
-    let said = put_never_rises(out, text, named, misses)?;
-    put_bytes(
-        out,
+    put_never_rises(text, misses)?;
+    writeln!(text, ": more frames never cost more misses</text>")
+}
+
+fn put_names(text: &mut Text<'_, impl Print>, misses: &[u32; 128]) -> Result<()>
+    requires { NeverRises misses.now }
+{
+    writeln!(text, "<g text-anchor=\"middle\">")?;
+    put_sizes(text)?;
+    put_below(text, misses)?;
+    write!(
         text,
-        said,
-        b": more frames never cost more misses</text>\n",
+        "<text transform=\"translate(50 560) rotate(-90)\">misses</text>\n</g>\n"
     )
 }
 
-fn put_names(
-    out: &impl Print,
-    text: &mut [u8; 4096],
-    at: usize,
-    misses: &[u32; 128],
-) -> Result<usize>
-    requires { (at < 4096) × NeverRises misses.now }
-    ensures { IfOk result (λ next. next < 4096) }
-{
-    let begun = put_bytes(out, text, at, b"<g text-anchor=\"middle\">\n")?;
-    let sized = put_sizes(out, text, begun)?;
-    let told = put_below(out, text, sized, misses)?;
-    put_bytes(
-        out,
-        text,
-        told,
-        b"<text transform=\"translate(50 560) rotate(-90)\">misses</text>\n</g>\n",
-    )
-}
-
-fn put_mark(out: &impl Print, text: &mut [u8; 4096], at: usize, frames: u16) -> Result<usize>
-    requires { at < 4096 }
-    ensures { IfOk result (λ next. next < 4096) }
-{
-    put_within(
-        out,
-        text,
-        at,
-        b"<path d=\"M",
-        x_for(frames),
-        b" 940V952\"/>\n",
-    )
-}
-
-fn put_marks(out: &impl Print, text: &mut [u8; 4096], at: usize) -> Result<usize>
-    requires { at < 4096 }
-    ensures { IfOk result (λ next. next < 4096) }
-{
-    let mut next = at;
-    for i in 0..MARKS {
-        next = put_mark(out, text, next, marked(i))?;
+fn put_marks(text: &mut Text<'_, impl Print>) -> Result<()> {
+    for frames in MARKS {
+        let x = x_for(frames);
+        writeln!(text, "<path d=\"M{x} 940V952\"/>")?;
     }
-    Ok(next)
+    Ok(())
 }
 
 // The axes, and the upright line at the trace's own size.
-fn put_axes(out: &impl Print, text: &mut [u8; 4096], at: usize, own: u16) -> Result<usize>
-    requires { at < 4096 }
-    ensures { IfOk result (λ next. next < 4096) }
-{
-    let begun = put_bytes(
-        out,
+fn put_axes(text: &mut Text<'_, impl Print>, own: u16) -> Result<()> {
+    write!(
         text,
-        at,
-        b"<g fill=\"none\" stroke=\"black\" stroke-width=\"3\">\n\
-        <path d=\"M200 180V940H1724\"/>\n",
+        "<g fill=\"none\" stroke=\"black\" stroke-width=\"3\">\n\
+        <path d=\"M200 180V940H1724\"/>\n"
     )?;
-    let next = put_marks(out, text, begun)?;
-    put_within(
-        out,
+    put_marks(text)?;
+    let x = x_for(own);
+    write!(
         text,
-        next,
-        b"<path d=\"M",
-        x_for(own),
-        b" 940V180\" stroke-dasharray=\"12 10\"/>\n</g>\n",
+        "<path d=\"M{x} 940V180\" stroke-dasharray=\"12 10\"/>\n</g>\n"
     )
 }
 
-// What follows a point of the curve: the last ends the list.
-fn ending(frames: u16) -> u8 {
-    if frames < 128 { b' ' } else { b'"' }
-}
-
-// A point of the curve, and what follows it.
-fn put_point(
-    out: &impl Print,
-    text: &mut [u8; 4096],
-    at: usize,
-    misses: &[u32; 128],
-    frames: u16,
-) -> Result<usize>
-    requires { (at < 4096) × (1 ≤ frames) × (frames ≤ 128) }
-    ensures { IfOk result (λ next. next < 4096) }
-{
-    let y = y_for(misses[0], misses_with(misses, frames) as u64);
-    let begun = put_long(out, text, at, x_for(frames))?;
-    let parted = put_byte(out, text, begun, b',')?;
-    let placed = put_long(out, text, parted, y)?;
-    put_byte(out, text, placed, ending(frames))
-}
-
-fn put_points(
-    out: &impl Print,
-    text: &mut [u8; 4096],
-    at: usize,
-    misses: &[u32; 128],
-) -> Result<usize>
-    requires { at < 4096 }
-    ensures { IfOk result (λ next. next < 4096) }
-{
-    let mut next = at;
-    for frames in 1..=128 {
-        next = put_point(out, text, next, misses, frames)?;
+// The points of the curve, parted by spaces.
+fn put_points(text: &mut Text<'_, impl Print>, misses: &[u32; 128]) -> Result<()> {
+    for (frames, here) in (1..=128).zip(misses) {
+        let x = x_for(frames);
+        let y = y_for(misses[0], u64::from(*here));
+        let ending = if frames < 128 { ' ' } else { '"' };
+        write!(text, "{x},{y}{ending}")?;
     }
-    Ok(next)
+    Ok(())
 }
 
-fn put_curve(
-    out: &impl Print,
-    text: &mut [u8; 4096],
-    at: usize,
-    misses: &[u32; 128],
-) -> Result<usize>
-    requires { at < 4096 }
-    ensures { IfOk result (λ next. next < 4096) }
-{
-    let begun = put_bytes(out, text, at, b"<polyline points=\"")?;
-    let drawn = put_points(out, text, begun, misses)?;
-    put_bytes(
-        out,
+fn put_curve(text: &mut Text<'_, impl Print>, misses: &[u32; 128]) -> Result<()> {
+    write!(text, "<polyline points=\"")?;
+    put_points(text, misses)?;
+    writeln!(
         text,
-        drawn,
-        b" fill=\"none\" stroke=\"black\" stroke-width=\"6\" stroke-linejoin=\"round\"/>\n",
+        " fill=\"none\" stroke=\"black\" stroke-width=\"6\" stroke-linejoin=\"round\"/>"
     )
 }
 
-// On which side of its line the own size is told, so that it has room.
-fn put_side(out: &impl Print, text: &mut [u8; 4096], at: usize, own: u16) -> Result<usize>
-    requires { at < 4096 }
-    ensures { IfOk result (λ next. next < 4096) }
-{
-    if 64 < own {
-        return put_bytes(out, text, at, b"end");
-    }
-    put_bytes(out, text, at, b"start")
-}
-
-// The trace's own size, in words.
-fn put_words(
-    out: &impl Print,
-    text: &mut [u8; 4096],
-    at: usize,
-    own: u16,
-    misses: u32,
-) -> Result<usize>
-    requires { at < 4096 }
-    ensures { IfOk result (λ next. next < 4096) }
-{
-    let placed = put_within(
-        out,
+// The trace's own size, in words, on that side of its line where there is room.
+fn put_words(text: &mut Text<'_, impl Print>, own: u16, misses: u32) -> Result<()> {
+    let x = x_for(own);
+    let side = if 64 < own { "end" } else { "start" };
+    write!(
         text,
-        at,
-        b"<text x=\"",
-        x_for(own),
-        b"\" y=\"152\" text-anchor=\"",
-    )?;
-    let sided = put_side(out, text, placed, own)?;
-    put_two(
-        out,
-        text,
-        sided,
-        b"\">own size: frames ",
-        own as u64,
-        b", misses ",
-        misses as u64,
-        b"</text>\n",
+        "<text x=\"{x}\" y=\"152\" text-anchor=\"{side}\">own size: frames {own}, misses {misses}</text>\n"
     )
 }
 
-fn put_own(
-    out: &impl Print,
-    text: &mut [u8; 4096],
-    at: usize,
-    own: u16,
-    misses: &[u32; 128],
-) -> Result<usize>
-    requires { (at < 4096) × (1 ≤ own) × (own ≤ 128) }
-    ensures { IfOk result (λ next. next < 4096) }
+fn put_own(text: &mut Text<'_, impl Print>, own: u16, misses: &[u32; 128]) -> Result<()>
+    requires { (1 ≤ own) × (own ≤ 128) }
 {
     let here = misses_with(misses, own);
-    let dotted = put_two(
-        out,
+    let x = x_for(own);
+    let y = y_for(misses[0], u64::from(here));
+    writeln!(
         text,
-        at,
-        b"<circle cx=\"",
-        x_for(own),
-        b"\" cy=\"",
-        y_for(misses[0], here as u64),
-        b"\" r=\"12\" fill=\"white\" stroke=\"black\" stroke-width=\"5\"/>\n",
+        "<circle cx=\"{x}\" cy=\"{y}\" r=\"12\" fill=\"white\" stroke=\"black\" stroke-width=\"5\"/>"
     )?;
-    let told = put_words(out, text, dotted, own, here)?;
-    put_bytes(out, text, told, b"</svg>\n")
+    put_words(text, own, here)?;
+    writeln!(text, "</svg>")
 }
 
 // Prints the picture for a trace of so many records, whose own size is `own` frames. Place i of the list is the misses with
@@ -406,12 +162,12 @@ fn put_own(
 pub fn draw(out: &impl Print, records: u32, own: u16, misses: &[u32; 128]) -> Result<()>
     requires { (1 ≤ own) × (own ≤ 128) × NeverRises misses.now }
 {
-    let mut text = [0u8; 4096];
-    let headed = put_head(out, &mut text, 0, records)?;
-    let gridded = put_grid(out, &mut text, headed, misses[0])?;
-    let named = put_names(out, &mut text, gridded, misses)?;
-    let framed = put_axes(out, &mut text, named, own)?;
-    let drawn = put_curve(out, &mut text, framed, misses)?;
-    let end = put_own(out, &mut text, drawn, own, misses)?;
-    lines::say_text(out, text, end)
+    let mut text = Text::new(out);
+    put_head(&mut text, records)?;
+    put_grid(&mut text, misses[0])?;
+    put_names(&mut text, misses)?;
+    put_axes(&mut text, own)?;
+    put_curve(&mut text, misses)?;
+    put_own(&mut text, own, misses)?;
+    text.flush()
 }

@@ -7,7 +7,6 @@ use lines::read_full;
 use pool::Pool;
 use std::io::{Read, Result};
 use tally::Tally;
-use word::{Order, Word};
 
 // The most bytes of a trace.
 const INPUT_ROOM: usize = 65536;
@@ -15,97 +14,72 @@ const INPUT_ROOM: usize = 65536;
 // The most traces of a series.
 const TURNS: u32 = 100000;
 
-// What the next trace goes on from; where nothing is present, it starts afresh.
+// What a trace goes on from.
 #[derive(Clone, Copy)]
-struct State {
-    present: bool,
+struct Start {
     pool: Pool,
     tally: Tally,
 }
 
-#[derive(Clone, Copy)]
-struct Turn {
-    whole: bool,
-    state: State,
-}
-
-// A fresh start for a trace. It is present once the trace is replayed.
-fn started(bytes: &[u8]) -> State {
-    let fresh = listing::fresh_for(bytes);
-    State {
-        present: false,
-        pool: fresh,
+// A fresh start for a trace.
+fn started(bytes: &[u8]) -> Start {
+    Start {
+        pool: listing::fresh_for(bytes),
         tally: tally::zero(),
     }
 }
 
-// A refused trace hands pool and tally back as they were.
-fn replayed(out: &impl Print, from: State, bytes: &[u8]) -> Result<State> {
+// Where the next trace goes on, if it does not start afresh. A refused trace leaves that as it was.
+fn replayed(out: &impl Print, before: Option<Start>, bytes: &[u8]) -> Result<Option<Start>> {
+    let from = match before {
+        Some(start) => start,
+        None => started(bytes),
+    };
     let ended = listing::list(out, from.pool, from.tally, bytes)?;
-    let pool = ended.pool;
-    let tally = ended.tally;
-    Ok(State {
-        present: from.present | (ended.refusal == 0),
-        pool: pool,
-        tally: tally,
-    })
+    if ended.refusal != 0 {
+        return Ok(before);
+    }
+    Ok(Some(Start {
+        pool: ended.pool,
+        tally: ended.tally,
+    }))
 }
 
-fn worked(out: &impl Print, before: State, item: &[u8]) -> Result<State> {
-    if item.len() == 0 {
-        lines::say(out, b"anew\n")?;
-        return Ok(started(item));
+fn worked(out: &impl Print, before: Option<Start>, item: &[u8]) -> Result<Option<Start>> {
+    if item.is_empty() {
+        println!(out; "anew")?;
+        return Ok(None);
     }
-    if before.present {
-        return replayed(out, before, item);
-    }
-    replayed(out, started(item), item)
+    replayed(out, before, item)
 }
 
-fn stopped(state: State) -> Turn {
-    Turn {
-        whole: false,
-        state: state,
-    }
-}
-
-// Works the next item, once all of it is read; stops where it is not whole or does not fit the space.
-fn next_item(
-    out: &impl Print,
-    from: &mut impl Read,
-    before: State,
-    space: &mut [u8],
-) -> Result<Turn> {
+// The next item, once all of it is read; none where it is not whole or does not fit the space.
+fn next_item<'a>(from: &mut impl Read, space: &'a mut [u8]) -> Result<Option<&'a [u8]>> {
     let mut head = [0u8; 4];
     if read_full(from, &mut head)? < 4 {
-        return Ok(stopped(before));
+        return Ok(None);
     }
-    let size = u32::get(&head, 0, Order::High) as usize;
+    let size = u32::from_be_bytes(head) as usize;
     if space.len() < size {
-        return Ok(stopped(before));
+        return Ok(None);
     }
     let item = &mut space[..size];
     if read_full(from, item)? < size {
-        return Ok(stopped(before));
+        return Ok(None);
     }
-    let after = worked(out, before, item)?;
-    Ok(Turn {
-        whole: true,
-        state: after,
-    })
+    Ok(Some(item))
 }
 
 // The turns are counted, since nothing says that the input ends.
 fn main(rt: HostRuntime) -> Result<()> {
     let mut space = [0u8; INPUT_ROOM];
     let mut input = rt.stdin();
-    let mut state = started(b"");
+    let mut start = None;
     for _ in 0..TURNS {
-        let t = next_item(&rt, &mut input, state, &mut space)?;
-        if !t.whole {
-            return Ok(());
+        match next_item(&mut input, &mut space)? {
+            Some(item) => start = worked(&rt, start, item)?,
+            None => break,
         }
-        state = t.state;
     }
     Ok(())
 }

@@ -2,10 +2,10 @@
 // with the answer and digests of all lent memory. traces/make writes the bundle, says how it is laid out, and knows the lines.
 #![tactic(auto)]
 
-ghost use Rattle.std.specs.Prelude.{◌≡◌, ◌+◌, ◌*◌, ◌≤◌, ◌<◌, length};
+ghost use Rattle.std.specs.Prelude.{◌+◌, ◌*◌, ◌≤◌, ◌<◌, length};
 
+use lines::{Spaced, read_full};
 use refusal::Refusal;
-use lines::{read_full, say, say_number, say_order};
 use settings::Settings;
 use std::io::{Read, Result};
 use trace::Summary;
@@ -14,30 +14,49 @@ use word::{Order, Word};
 // The most cases of a bundle.
 const TURNS: u32 = 1000;
 
+// The most places and bytes that are lent.
+const LIST_ROOM: usize = 8001;
+
+const BYTE_ROOM: usize = 64064;
+
+// Memory to lend, the same at each case.
+const PAGES_TO_LEND: [u32; LIST_ROOM] = [7; LIST_ROOM];
+
+const KINDS_TO_LEND: [u16; LIST_ROOM] = [7; LIST_ROOM];
+
+const BYTES_TO_LEND: [u8; BYTE_ROOM] = [165; BYTE_ROOM];
+
+// What is done with a case's body.
+#[derive(Clone, Copy)]
+enum Work {
+    Check,
+    Read,
+    Write,
+    Convert,
+}
+
+fn work_of(number: u32) -> Option<Work> {
+    match number {
+        1 => Some(Work::Check),
+        2 => Some(Work::Read),
+        3 => Some(Work::Write),
+        4 => Some(Work::Convert),
+        _ => None,
+    }
+}
+
 fn say_settings(out: &impl Print, s: Settings) -> Result<()> {
-    say_number(out, s.rule as u64)?;
-    say_number(out, s.frames as u64)?;
-    say_number(out, s.batch as u64)?;
-    say_number(out, s.cap as u64)?;
-    say_number(out, s.sample as u64)?;
-    say_number(out, s.weight as u64)?;
-    say_number(out, s.span as u64)?;
-    say_number(out, s.seed as u64)
+    let counts = [s.rule, s.frames, s.batch, s.cap, s.sample, s.weight];
+    print!(out; "{} {} {}", Spaced(&counts), s.span, s.seed)
 }
 
 fn say_checked(out: &impl Print, c: std::result::Result<Summary, Refusal>) -> Result<()> {
     match c {
-        Err(r) => {
-            say(out, b" refused")?;
-            say_number(out, u32::from(r) as u64)
-        }
+        Err(refusal) => print!(out; " refused {}", u32::from(refusal)),
         Ok(h) => {
-            say(out, b" accepted")?;
-            let order = h.order;
-            say_order(out, order)?;
-            let settings = h.settings;
-            say_settings(out, settings)?;
-            say_number(out, h.count as u64)
+            print!(out; " accepted {}", h.order)?;
+            say_settings(out, h.settings)?;
+            print!(out; " {}", h.count)
         }
     }
 }
@@ -50,100 +69,51 @@ fn mixed(h: u64, v: u32) -> u64
     (h * 31 + (v as u64)) % 4294967291
 }
 
-fn byte(b: u8) -> u32 {
-    b as u32
-}
-
-fn kind(k: u16) -> u32 {
-    k as u32
-}
-
-fn digest_bytes(s: &[u8; 64064]) -> u64 {
+fn digest<T: Copy + Into<u32>>(items: &[T]) -> u64 {
     let mut h: u64 = 1;
-    for i in 0..64064 {
-        h = mixed(h, byte(s[i]));
+    for item in items {
+        h = mixed(h, (*item).into());
     }
     h
-}
-
-fn digest_pages(s: &[u32; 8001]) -> u64 {
-    let mut h: u64 = 1;
-    for i in 0..8001 {
-        h = mixed(h, s[i]);
-    }
-    h
-}
-
-fn digest_kinds(s: &[u16; 8001]) -> u64 {
-    let mut h: u64 = 1;
-    for i in 0..8001 {
-        h = mixed(h, kind(s[i]));
-    }
-    h
-}
-
-// Memory to lend, the same at each case.
-fn bytes_to_lend() -> [u8; 64064]
-    ensures { 64064 ≡ length result }
-{
-    [165u8; 64064]
-}
-
-fn pages_to_lend() -> [u32; 8001]
-    ensures { 8001 ≡ length result }
-{
-    [7u32; 8001]
-}
-
-fn kinds_to_lend() -> [u16; 8001]
-    ensures { 8001 ≡ length result }
-{
-    [7u16; 8001]
 }
 
 fn try_check(out: &impl Print, body: &[u8]) -> Result<()> {
-    say(out, b"check")?;
+    print!(out; "check")?;
     say_checked(out, trace::check(body))
 }
 
 fn try_read(out: &impl Print, body: &[u8], pages_room: usize, kinds_room: usize) -> Result<()> {
-    let mut pages = pages_to_lend();
-    let mut kinds = kinds_to_lend();
-    if pages_room <= 8001 && kinds_room <= 8001 {
-        say(out, b"read")?;
+    let mut pages = PAGES_TO_LEND;
+    let mut kinds = KINDS_TO_LEND;
+    if pages_room <= LIST_ROOM && kinds_room <= LIST_ROOM {
+        print!(out; "read")?;
         say_checked(
             out,
             trace::read(body, &mut pages[..pages_room], &mut kinds[..kinds_room]),
         )?;
     }
-    say_number(out, digest_pages(&pages))?;
-    say_number(out, digest_kinds(&kinds))
+    print!(out; " {} {}", digest(&pages), digest(&kinds))
 }
 
 fn try_convert(out: &impl Print, body: &[u8], room: usize) -> Result<()> {
-    let mut lent = bytes_to_lend();
-    if room <= 64064 {
-        say(out, b"convert")?;
-        say_number(out, scribe::convert(body, &mut lent[0..room]) as u64)?;
+    let mut lent = BYTES_TO_LEND;
+    if room <= BYTE_ROOM {
+        print!(out; "convert {}", scribe::convert(body, &mut lent[..room]))?;
     }
-    say_number(out, digest_bytes(&lent))
+    print!(out; " {}", digest(&lent))
 }
 
-// The pages of a write case, n numbers of 4 bytes from `at`.
-fn take_pages(body: &[u8], at: usize, n: usize, pages: &mut [u32])
-    requires { (at + 4 * n ≤ length body.now) × (n ≤ length pages.old) }
-{
-    for i in 0..n {
-        pages[i] = u32::get(body, at + 4 * i, Order::High);
+// The pages of a write case, numbers of 4 bytes.
+fn take_pages(body: &[u8], pages: &mut [u32]) {
+    for (page, bytes) in pages.iter_mut().zip(body.chunks_exact(4)) {
+        *page = u32::get(bytes, 0, Order::High);
     }
 }
 
-// And the kinds, n numbers of 2 bytes.
-fn take_kinds(body: &[u8], at: usize, n: usize, kinds: &mut [u16])
-    requires { (at + 2 * n ≤ length body.now) × (n ≤ length kinds.old) }
-{
-    for i in 0..n {
-        kinds[i] = u16::get(body, at + 2 * i, Order::High);
+// And the kinds, numbers of 2 bytes.
+fn take_kinds(body: &[u8], kinds: &mut [u16]) {
+    for (kind, bytes) in kinds.iter_mut().zip(body.chunks_exact(2)) {
+        *kind = u16::get(bytes, 0, Order::High);
     }
 }
 
@@ -164,17 +134,18 @@ fn write_lists(body: &[u8], pages: &[u32], kinds: &[u16], out: &mut [u8]) -> u32
 fn try_lists(out: &impl Print, body: &[u8], p: usize, k: usize, room: usize) -> Result<()>
     requires { (32 + 4 * p + 2 * k ≤ length body.now) × (p ≤ 8001) × (k ≤ 8001) × (room ≤ 64064) }
 {
-    let mut pages = pages_to_lend();
-    let mut kinds = kinds_to_lend();
-    let mut lent = bytes_to_lend();
-    take_pages(body, 32, p, &mut pages);
-    take_kinds(body, 32 + 4 * p, k, &mut kinds);
-    say(out, b"write")?;
-    say_number(
-        out,
-        write_lists(body, &pages[0..p], &kinds[0..k], &mut lent[0..room]) as u64,
+    let mut pages_lent = PAGES_TO_LEND;
+    let mut kinds_lent = KINDS_TO_LEND;
+    let mut lent = BYTES_TO_LEND;
+    let pages = &mut pages_lent[..p];
+    let kinds = &mut kinds_lent[..k];
+    take_pages(&body[32..], pages);
+    take_kinds(&body[32 + 4 * p..], kinds);
+    print!(out;
+        "write {}",
+        write_lists(body, pages, kinds, &mut lent[..room])
     )?;
-    say_number(out, digest_bytes(&lent))
+    print!(out; " {}", digest(&lent))
 }
 
 fn try_write(out: &impl Print, body: &[u8], room: usize) -> Result<()> {
@@ -183,21 +154,27 @@ fn try_write(out: &impl Print, body: &[u8], room: usize) -> Result<()> {
     }
     let p = u32::get(body, 24, Order::High) as usize;
     let k = u32::get(body, 28, Order::High) as usize;
-    if p <= 8001 && k <= 8001 && 32 + 4 * p + 2 * k <= body.len() && room <= 64064 {
+    if p <= LIST_ROOM && k <= LIST_ROOM && 32 + 4 * p + 2 * k <= body.len() && room <= BYTE_ROOM {
         return try_lists(out, body, p, k, room);
     }
     Ok(())
 }
 
-fn try_case(out: &impl Print, op: u32, body: &[u8], room: usize, other_room: usize) -> Result<()> {
-    match op {
-        1 => try_check(out, body)?,
-        2 => try_read(out, body, room, other_room)?,
-        3 => try_write(out, body, room)?,
-        4 => try_convert(out, body, room)?,
-        _ => say(out, b"unknown")?,
+fn try_case(
+    out: &impl Print,
+    work: Option<Work>,
+    body: &[u8],
+    room: usize,
+    other_room: usize,
+) -> Result<()> {
+    match work {
+        Some(Work::Check) => try_check(out, body)?,
+        Some(Work::Read) => try_read(out, body, room, other_room)?,
+        Some(Work::Write) => try_write(out, body, room)?,
+        Some(Work::Convert) => try_convert(out, body, room)?,
+        None => print!(out; "unknown")?,
     }
-    say(out, b"\n")
+    println!(out;)
 }
 
 // Whether there was a case: its head, and its body in `body`.
@@ -206,7 +183,7 @@ fn next_case(out: &impl Print, from: &mut impl Read, body: &mut [u8]) -> Result<
     if read_full(from, &mut head)? < 16 {
         return Ok(false);
     }
-    let op = u32::get(&head, 0, Order::High);
+    let work = work_of(u32::get(&head, 0, Order::High));
     let size = u32::get(&head, 4, Order::High) as usize;
     let room = u32::get(&head, 8, Order::High) as usize;
     let other_room = u32::get(&head, 12, Order::High) as usize;
@@ -217,12 +194,12 @@ fn next_case(out: &impl Print, from: &mut impl Read, body: &mut [u8]) -> Result<
     if read_full(from, part)? < size {
         return Ok(false);
     }
-    try_case(out, op, part, room, other_room)?;
+    try_case(out, work, part, room, other_room)?;
     Ok(true)
 }
 
 fn main(rt: HostRuntime) -> Result<()> {
-    let mut space = bytes_to_lend();
+    let mut space = [0; BYTE_ROOM];
     let mut input = rt.stdin();
     for _ in 0..TURNS {
         if !next_case(&rt, &mut input, &mut space)? {
