@@ -222,16 +222,30 @@ fn counted(mut pool: Pool, mut tally: Tally, bytes: &[u8]) -> Ended
 {
     let answer = replay::counts(&mut pool, &mut tally, bytes);
     let refusal = refusal::answer_of(answer);
-    Ended { refusal, pool, tally }
+    Ended {
+        refusal,
+        pool,
+        tally,
+    }
 }
 
 // And with rows and written pages.
-fn replayed(mut pool: Pool, mut tally: Tally, bytes: &[u8], rows: &mut [u32], written: &mut [u32]) -> Ended
+fn replayed(
+    mut pool: Pool,
+    mut tally: Tally,
+    bytes: &[u8],
+    rows: &mut [u32],
+    written: &mut [u32],
+) -> Ended
     ensures { ReplayInto pool tally bytes.now rows.old written.old result rows.new written.new }
 {
     let answer = replay::replay(&mut pool, &mut tally, bytes, rows, written);
     let refusal = refusal::answer_of(answer);
-    Ended { refusal, pool, tally }
+    Ended {
+        refusal,
+        pool,
+        tally,
+    }
 }
 
 // Replays a trace and prints its sheet, or that it is refused.
