@@ -1,4 +1,4 @@
-// Input and output files, by the number of the word that names them. What fails is told on standard error at once.
+// Input and output files, by the numbers of the words that name them. What fails is told on standard error at once.
 #![tactic(auto)]
 
 ghost use Rattle.std.specs.Prelude.{◌≡◌, ◌↔◌, IsTrue};
@@ -6,15 +6,16 @@ ghost use Rattle.std.specs.Prelude.{◌≡◌, ◌↔◌, IsTrue};
 pub mod spaces;
 
 use lines::{read_full, say};
+use spaces::{WORD_SPACE, zeros};
 use std::env::{Env, FillError};
 use std::fs::{File, OpenOptions};
-use std::io::{Error, ErrorKind, Read, Result, Seek, SeekFrom, Write};
-use std::{env, fs, process, str};
+use std::io::{Error, ErrorKind, Read, Seek, SeekFrom, Write};
+use std::process::ExitCode;
+use std::{env, fs, io, process, str};
 
-// How a run ends.
-#[derive(Clone, Copy)]
-pub enum Status {
-    Done,
+// Why a run ends without its work done.
+#[derive(Clone, Copy, Debug, PartialEq, Eq)]
+pub enum Stop {
     Refused,
     WrongWords,
     Failed,
@@ -22,10 +23,38 @@ pub enum Status {
     Unread,
 }
 
+// 141 is what a shell says of a program that the system ends since nobody reads what it writes.
+impl From<Stop> for ExitCode {
+    fn from(stop: Stop) -> ExitCode {
+        match stop {
+            Stop::Refused => ExitCode::from(1),
+            Stop::WrongWords => ExitCode::from(2),
+            Stop::Failed => ExitCode::from(3),
+            Stop::Unread => ExitCode::from(141),
+        }
+    }
+}
+
+// One of the words that the program is started with.
 #[derive(Clone, Copy)]
-pub struct Input {
-    pub failed: bool,
-    pub size: usize,
+pub struct Argument<'a> {
+    pub number: usize,
+    pub text: &'a [u8],
+}
+
+// Where an input comes from or an output goes: standard input or output, or a file that a word names.
+#[derive(Clone, Copy)]
+enum Place<'a> {
+    Standard,
+    Named(Argument<'a>),
+}
+
+// What is written, and the file that it goes to: the name as it is told, and the path.
+#[derive(Clone, Copy)]
+struct Output<'a> {
+    name: &'a [u8],
+    path: &'a str,
+    bytes: &'a [u8],
 }
 
 // A new file beside the output, and its name.
@@ -40,21 +69,6 @@ const TRIES: u64 = 100;
 
 // The system's number for a name that is no text.
 const NO_TEXT: i32 = 84;
-
-// Whether two texts are the same.
-pub fn same(a: &[u8], b: &[u8]) -> bool
-    ensures { IsTrue result ↔ a.now ≡ b.now }
-{
-    a == b
-}
-
-// The first n bytes, or all of them where there are fewer.
-pub fn front(bytes: &[u8], n: usize) -> &[u8] {
-    if n < bytes.len() {
-        return &bytes[..n];
-    }
-    bytes
-}
 
 // Writes to standard error. Where that fails there is nowhere to tell it.
 pub fn tell(rt: &HostRuntime, text: &[u8]) {
@@ -80,214 +94,180 @@ fn tell_reason(rt: &HostRuntime, error: &Error) {
 }
 
 // Tells why a call failed. Where nobody reads what is written there is nothing to tell, as where the system ends a program for it.
-pub fn failed(rt: &HostRuntime, name: &[u8], error: &Error) -> Status {
+pub fn failed(rt: &HostRuntime, name: &[u8], error: &Error) -> Stop {
     if error.kind() == ErrorKind::BrokenPipe {
-        return Status::Unread;
+        return Stop::Unread;
     }
     tell(rt, b"hitchyawl: ");
     tell(rt, name);
     tell(rt, b": ");
     tell_reason(rt, error);
     tell(rt, b"\n");
-    Status::Failed
+    Stop::Failed
 }
 
-// The status after printing.
-pub fn printed(rt: &HostRuntime, said: Result<()>, status: Status) -> Status {
-    match said {
-        Ok(()) => status,
-        Err(error) => failed(rt, b"standard output", &error),
-    }
-}
-
-// Puts word i at the start of space and answers how long it is there: 0 where there is none. Of one that is too long the
-// first bytes are taken.
-pub fn fetch(rt: &HostRuntime, i: usize, space: &mut [u8]) -> usize {
-    match rt.arg(i, space) {
-        Ok(n) => n,
-        Err(FillError::TooLong) => space.len(),
-        Err(FillError::NotPresent) => 0,
-    }
-}
-
-// Tells what is wrong with the file that word i names, or with standard input where i is 0; no call has failed.
-fn failed_word(rt: &HostRuntime, i: usize, reason: &[u8]) -> Status {
-    let mut space = spaces::for_word();
-    let n = fetch(rt, i, &mut space);
-    let name = front(&space, n);
-    tell(rt, b"hitchyawl: ");
-    if i == 0 || same(name, b"-") {
-        tell(rt, b"standard input");
-    } else {
-        tell(rt, name);
-    }
-    tell(rt, reason);
-    Status::Failed
-}
-
-fn no_input() -> Input {
-    Input {
-        failed: true,
-        size: 0,
-    }
-}
-
-// Reads until the space is full or the input ends.
-fn read_from(rt: &HostRuntime, from: &mut impl Read, name: &[u8], space: &mut [u8]) -> Input {
-    match read_full(from, space) {
-        Ok(size) => Input {
-            failed: false,
-            size,
-        },
-        Err(error) => {
-            failed(rt, name, &error);
-            no_input()
-        }
-    }
-}
-
-fn read_standard(rt: &HostRuntime, space: &mut [u8]) -> Input {
-    read_from(rt, &mut rt.stdin(), b"standard input", space)
+// What printing ends in.
+pub fn printed(rt: &HostRuntime, said: io::Result<()>) -> Result<(), Stop> {
+    said.map_err(|error| failed(rt, b"standard output", &error))
 }
 
 // The file that stands in for one whose name is no text, which the library cannot open. The script `hitchyawl` makes it.
-fn stand_in(rt: &HostRuntime, i: usize) -> Result<String> {
-    let variable = format!(in rt.alloc(); "HITCHYAWL_WORD_{i}")?;
-    match env::var(rt, variable.as_str()) {
-        Ok(path) => Ok(path),
-        Err(_) => Err(Error::from_raw_os_error(NO_TEXT)),
-    }
+fn stand_in(rt: &HostRuntime, number: usize) -> io::Result<String> {
+    let variable = format!(in rt.alloc(); "HITCHYAWL_WORD_{number}")?;
+    env::var(rt, variable.as_str()).map_err(|_| Error::from_raw_os_error(NO_TEXT))
 }
 
-// The path of the file that word i names.
-fn path_of(rt: &HostRuntime, i: usize, name: &[u8]) -> Result<String> {
-    match str::from_utf8(name) {
-        Ok(path) => Ok(String::from_str(rt.alloc(), path)?),
-        Err(_) => stand_in(rt, i),
-    }
+// Reads to the front of the space until it is full or the input ends.
+fn fill<'a>(from: &mut impl Read, space: &'a mut [u8]) -> io::Result<&'a [u8]> {
+    let size = read_full(from, space)?;
+    Ok(&space[..size])
 }
 
-fn open_word(rt: &HostRuntime, i: usize, name: &[u8]) -> Result<File> {
-    let path = path_of(rt, i, name)?;
-    File::open(rt, path.as_str())
-}
-
-fn read_named(rt: &HostRuntime, i: usize, name: &[u8], space: &mut [u8]) -> Input {
-    match open_word(rt, i, name) {
-        Ok(file) => {
-            let mut from = file;
-            read_from(rt, &mut from, name, space)
+impl<'a> Argument<'a> {
+    // The word of a number, where there is one; its bytes are put into the space. Of one that is too long the first bytes are
+    // taken.
+    pub fn fetch(
+        rt: &HostRuntime,
+        number: Option<usize>,
+        space: &'a mut [u8],
+    ) -> Option<Argument<'a>> {
+        let number = number?;
+        match rt.arg(number, space) {
+            Ok(n) => Some(Argument {
+                number,
+                text: &space[..n],
+            }),
+            Err(FillError::TooLong) => Some(Argument {
+                number,
+                text: space,
+            }),
+            Err(FillError::NotPresent) => None,
         }
-        Err(error) => {
-            failed(rt, name, &error);
-            no_input()
+    }
+
+    // Whether it is this text.
+    pub fn is(&self, text: &[u8]) -> bool
+        ensures { IsTrue result ↔ self.now.text.now ≡ text.now }
+    {
+        self.text == text
+    }
+
+    // The path of the file that it names.
+    fn path(&self, rt: &HostRuntime) -> io::Result<String> {
+        match str::from_utf8(self.text) {
+            Ok(path) => Ok(String::from_str(rt.alloc(), path)?),
+            Err(_) => stand_in(rt, self.number),
         }
     }
-}
 
-// Reads the file that word i names, or standard input where i is 0.
-pub fn read(rt: &HostRuntime, i: usize, space: &mut [u8]) -> Input {
-    if i == 0 {
-        return read_standard(rt, space);
+    fn open(&self, rt: &HostRuntime) -> io::Result<File> {
+        let path = self.path(rt)?;
+        File::open(rt, path.as_str())
     }
-    let mut word = spaces::for_word();
-    let n = fetch(rt, i, &mut word);
-    let name = front(&word, n);
-    if same(name, b"-") {
-        return read_standard(rt, space);
-    }
-    read_named(rt, i, name, space)
-}
 
-// Reads the whole of an input. One that fills the space is too large.
-pub fn read_whole(rt: &HostRuntime, i: usize, space: &mut [u8]) -> Input {
-    let input = read(rt, i, space);
-    if input.failed || input.size < space.len() {
-        return input;
-    }
-    failed_word(rt, i, b": File too large\n");
-    no_input()
-}
-
-// Whether a call did its work; where it did not, that is told.
-fn done(rt: &HostRuntime, called: Result<()>, name: &[u8]) -> Status {
-    match called {
-        Ok(()) => Status::Done,
-        Err(error) => failed(rt, name, &error),
+    fn write(&self, rt: &HostRuntime, bytes: &[u8]) -> io::Result<()> {
+        let path = self.path(rt)?;
+        let output = Output {
+            name: self.text,
+            path: path.as_str(),
+            bytes,
+        };
+        output.write(rt)
     }
 }
 
-// The path of the output, the process's number, from the second try on the try's, and `part`.
-fn part_name(rt: &HostRuntime, path: &str, tries: u64) -> Result<String> {
-    let id = process::id(rt.process());
-    if tries == 0 {
-        return Ok(format!(in rt.alloc(); "{path}.{id}.part")?);
+impl<'a> Place<'a> {
+    // What the word of a number names; a space is lent for it.
+    fn named(rt: &HostRuntime, number: Option<usize>, space: &'a mut [u8]) -> Place<'a> {
+        match Argument::fetch(rt, number, space) {
+            Some(word) if !word.is(b"-") => Place::Named(word),
+            _ => Place::Standard,
+        }
     }
-    Ok(format!(in rt.alloc(); "{path}.{id}.{tries}.part")?)
-}
 
-fn create(rt: &HostRuntime, path: &str, tries: u64) -> Result<Part> {
-    let name = part_name(rt, path, tries)?;
-    let file = File::create_new(rt, name.as_str())?;
-    Ok(Part { file, name })
-}
+    // Its name, as it is told.
+    fn name(&self, standard: &'a [u8]) -> &'a [u8] {
+        match self {
+            Place::Standard => standard,
+            Place::Named(word) => word.text,
+        }
+    }
 
-// Makes a file of a name that is not taken, as one may be by another machine's process of the same number.
-fn create_part(rt: &HostRuntime, path: &str) -> Result<Part> {
-    for tries in 0..TRIES - 1 {
-        match create(rt, path, tries) {
-            Ok(part) => return Ok(part),
-            Err(error) => {
-                if error.kind() != ErrorKind::AlreadyExists {
-                    return Err(error);
-                }
+    fn input_name(&self) -> &'a [u8] {
+        self.name(b"standard input")
+    }
+
+    fn output_name(&self) -> &'a [u8] {
+        self.name(b"standard output")
+    }
+
+    fn fill<'s>(&self, rt: &HostRuntime, space: &'s mut [u8]) -> io::Result<&'s [u8]> {
+        match self {
+            Place::Standard => fill(&mut rt.stdin(), space),
+            Place::Named(word) => {
+                let mut file = word.open(rt)?;
+                fill(&mut file, space)
             }
         }
     }
-    create(rt, path, TRIES - 1)
+
+    fn read<'s>(&self, rt: &HostRuntime, space: &'s mut [u8]) -> Result<&'s [u8], Stop> {
+        self.fill(rt, space)
+            .map_err(|error| failed(rt, self.input_name(), &error))
+    }
+
+    // Standard output is not opened again, so that what is written to it before and after stays in its place.
+    fn write(&self, rt: &HostRuntime, bytes: &[u8]) -> io::Result<()> {
+        match self {
+            Place::Named(word) if !word.is(b"/dev/stdout") => word.write(rt, bytes),
+            _ => say(rt, bytes),
+        }
+    }
+}
+
+// Reads the file that a word names, or standard input where none does, as far as there is space.
+pub fn read<'a>(
+    rt: &HostRuntime,
+    file: Option<usize>,
+    space: &'a mut [u8],
+) -> Result<&'a [u8], Stop> {
+    let mut word = zeros::<WORD_SPACE>();
+    Place::named(rt, file, &mut word).read(rt, space)
+}
+
+// Reads the whole of an input. One that fills the space is too large; no call has failed then.
+pub fn read_whole<'a>(
+    rt: &HostRuntime,
+    file: Option<usize>,
+    space: &'a mut [u8],
+) -> Result<&'a [u8], Stop> {
+    let room = space.len();
+    let mut word = zeros::<WORD_SPACE>();
+    let input = Place::named(rt, file, &mut word);
+    let bytes = input.read(rt, space)?;
+    if bytes.len() < room {
+        return Ok(bytes);
+    }
+    tell(rt, b"hitchyawl: ");
+    tell(rt, input.input_name());
+    tell(rt, b": File too large\n");
+    Err(Stop::Failed)
+}
+
+// Writes the file that a word names, or standard output where none does.
+pub fn write(rt: &HostRuntime, file: Option<usize>, bytes: &[u8]) -> Result<(), Stop> {
+    let mut word = zeros::<WORD_SPACE>();
+    let output = Place::named(rt, file, &mut word);
+    output
+        .write(rt, bytes)
+        .map_err(|error| failed(rt, output.output_name(), &error))
 }
 
 // All of it is stored before the file is closed.
-fn stored(file: File, bytes: &[u8]) -> Result<()> {
+fn stored(file: File, bytes: &[u8]) -> io::Result<()> {
     let mut to = file;
     to.write_all(bytes)?;
     to.sync_all()
-}
-
-// The new file takes the output's name once all of it is stored.
-fn replace(rt: &HostRuntime, path: &str, bytes: &[u8], part: Part) -> Result<()> {
-    let Part { file, name } = part;
-    let mut ended = stored(file, bytes);
-    if ended.is_ok() {
-        ended = fs::rename(rt, name.as_str(), path);
-    }
-    if ended.is_err() {
-        let _ = fs::remove_file(rt, name.as_str());
-    }
-    ended
-}
-
-// Writes the output whole under another name and renames it, so that whoever looks sees the old file or the new one.
-fn write_whole(rt: &HostRuntime, path: &str, bytes: &[u8]) -> Result<()> {
-    let part = create_part(rt, path)?;
-    replace(rt, path, bytes, part)
-}
-
-// Whether an open file is a regular one. A pipe has no positions, and a device like /dev/null none but 0. The size of a
-// block device cannot be set; that is tried below /dev/ alone, since setting the size of a file, if to what it is, changes its time.
-fn is_regular(file: &File, name: &[u8]) -> bool {
-    let mut at = file;
-    match at.seek(SeekFrom::Start(1)) {
-        Ok(1) => {}
-        _ => return false,
-    }
-    if !name.starts_with(b"/dev/") {
-        return true;
-    }
-    match at.seek(SeekFrom::End(0)) {
-        Ok(size) => file.set_len(size).is_ok(),
-        Err(_) => false,
-    }
 }
 
 // Whether a name stands for an open descriptor, whatever is behind it.
@@ -295,48 +275,83 @@ fn is_descriptor(name: &[u8]) -> bool {
     name.starts_with(b"/dev/fd/") || name.starts_with(b"/dev/std") || name.starts_with(b"/proc/")
 }
 
-// A pipe or a device is no file that another could take the place of.
-fn write_open(rt: &HostRuntime, name: &[u8], path: &str, bytes: &[u8], file: File) -> Result<()> {
-    if is_descriptor(name) || !is_regular(&file, name) {
-        let mut to = file;
-        return to.write_all(bytes);
+// Whether an open file is a regular one. A pipe has no positions, and a device like /dev/null none but 0. The size of a
+// block device cannot be set; that is tried below /dev/ alone, since setting the size of a file, if to what it is, changes its time.
+fn is_regular(file: &File, name: &[u8]) -> bool {
+    let mut at = file;
+    if !matches!(at.seek(SeekFrom::Start(1)), Ok(1)) {
+        return false;
     }
-    write_whole(rt, path, bytes)
+    if !name.starts_with(b"/dev/") {
+        return true;
+    }
+    at.seek(SeekFrom::End(0))
+        .is_ok_and(|size| file.set_len(size).is_ok())
 }
 
-// Opened to append, as it is here, nothing of a file is changed.
-fn write_path(rt: &HostRuntime, name: &[u8], path: &str, bytes: &[u8]) -> Result<()> {
-    match OpenOptions::new().append(true).open(rt, path) {
-        Ok(file) => write_open(rt, name, path, bytes, file),
-        Err(error) => {
-            if error.kind() == ErrorKind::NotFound {
-                return write_whole(rt, path, bytes);
+impl<'a> Output<'a> {
+    // The path, the process's number, from the second try on the try's, and `part`.
+    fn part_name(&self, rt: &HostRuntime, tries: u64) -> io::Result<String> {
+        let path = self.path;
+        let id = process::id(rt.process());
+        if tries == 0 {
+            return Ok(format!(in rt.alloc(); "{path}.{id}.part")?);
+        }
+        Ok(format!(in rt.alloc(); "{path}.{id}.{tries}.part")?)
+    }
+
+    fn create(&self, rt: &HostRuntime, tries: u64) -> io::Result<Part> {
+        let name = self.part_name(rt, tries)?;
+        let file = File::create_new(rt, name.as_str())?;
+        Ok(Part { file, name })
+    }
+
+    // Makes a file of a name that is not taken, as one may be by another machine's process of the same number.
+    fn create_part(&self, rt: &HostRuntime) -> io::Result<Part> {
+        for tries in 0..TRIES - 1 {
+            match self.create(rt, tries) {
+                Err(error) if error.kind() == ErrorKind::AlreadyExists => {}
+                made => return made,
             }
-            Err(error)
+        }
+        self.create(rt, TRIES - 1)
+    }
+
+    // The new file takes the output's name once all of it is stored.
+    fn replace(&self, rt: &HostRuntime, part: Part) -> io::Result<()> {
+        let Part { file, name } = part;
+        let ended = stored(file, self.bytes).and_then(|()| fs::rename(
+            rt,
+            name.as_str(),
+            self.path,
+        ));
+        if ended.is_err() {
+            let _ = fs::remove_file(rt, name.as_str());
+        }
+        ended
+    }
+
+    // Writes it whole under another name and renames it, so that whoever looks sees the old file or the new one.
+    fn write_whole(&self, rt: &HostRuntime) -> io::Result<()> {
+        let part = self.create_part(rt)?;
+        self.replace(rt, part)
+    }
+
+    // A pipe or a device is no file that another could take the place of.
+    fn write_open(&self, rt: &HostRuntime, file: File) -> io::Result<()> {
+        if is_descriptor(self.name) || !is_regular(&file, self.name) {
+            let mut to = file;
+            return to.write_all(self.bytes);
+        }
+        self.write_whole(rt)
+    }
+
+    // Opened to append, as it is here, nothing of a file is changed.
+    fn write(&self, rt: &HostRuntime) -> io::Result<()> {
+        match OpenOptions::new().append(true).open(rt, self.path) {
+            Ok(file) => self.write_open(rt, file),
+            Err(error) if error.kind() == ErrorKind::NotFound => self.write_whole(rt),
+            Err(error) => Err(error),
         }
     }
-}
-
-fn write_named(rt: &HostRuntime, i: usize, name: &[u8], bytes: &[u8]) -> Result<()> {
-    let path = path_of(rt, i, name)?;
-    write_path(rt, name, path.as_str(), bytes)
-}
-
-// Standard output is not opened again, so that what is written to it before and after stays in its place.
-fn write_out(rt: &HostRuntime, name: &[u8], bytes: &[u8]) -> Status {
-    done(rt, say(rt, bytes), name)
-}
-
-// Writes the file that word i names.
-pub fn write(rt: &HostRuntime, i: usize, bytes: &[u8]) -> Status {
-    let mut word = spaces::for_word();
-    let n = fetch(rt, i, &mut word);
-    let name = front(&word, n);
-    if same(name, b"-") {
-        return write_out(rt, b"standard output", bytes);
-    }
-    if same(name, b"/dev/stdout") {
-        return write_out(rt, name, bytes);
-    }
-    done(rt, write_named(rt, i, name, bytes), name)
 }

@@ -6,19 +6,16 @@ ghost use Rattle.pool.specs.Sound.{sound_pool};
 ghost use Rattle.image.specs.Layout.{image_length, used_in, encode_pool};
 ghost use Rattle.replay.specs.Calls.{counts_of};
 
-use crate::work;
-use files::{Status, front, printed, spaces};
+use crate::work::{amended, front, refused};
+use files::Stop;
+use files::spaces::{INPUT_SPACE, TRACE_SPACE, zeros};
 use pool::Pool;
 use replay::Ended;
-use std::io::Result;
+use std::io;
 use tally::Tally;
 use word::Order;
 use words::Request;
 use words::names::Command;
-
-fn image_refused(rt: &HostRuntime, refusal: u32) -> Status {
-    printed(rt, lines::say_image_refused(rt, refusal), Status::Refused)
-}
 
 // The image of a pool at the front of `out`; its length is the answer. None is refused: the pool is sound, and there is room
 // for any.
@@ -31,7 +28,7 @@ fn put_image(pool: Pool, order: Order, out: &mut [u8]) -> usize
 }
 
 // Writes the image of a pool in the byte order of the trace.
-fn save(rt: &HostRuntime, pool: Pool, bytes: &[u8], output: usize) -> Status
+fn save(rt: &HostRuntime, pool: Pool, bytes: &[u8], output: Option<usize>) -> Result<(), Stop>
     requires { sound_pool pool ≡ true }
 {
     let mut space = [0u8; image::BYTE_LIMIT];
@@ -46,7 +43,7 @@ fn printed_replay(
     pool: Pool,
     tally: Tally,
     bytes: &[u8],
-) -> Result<Ended>
+) -> io::Result<Ended>
     ensures { IfOk result (λ ended. ended ≡ counts_of pool tally bytes.now) }
 {
     match command {
@@ -56,73 +53,51 @@ fn printed_replay(
 }
 
 // How a replay that is printed ends: with its pool saved, where an image is named for it.
-fn replay_ended(rt: &HostRuntime, request: Request, after: Ended, bytes: &[u8]) -> Status
+fn replay_ended(rt: &HostRuntime, request: &Request, after: Ended, bytes: &[u8]) -> Result<(), Stop>
     requires { after.refusal ≡ 0 → sound_pool after.pool ≡ true }
 {
     if after.refusal != 0 {
-        return Status::Refused;
+        return Err(Stop::Refused);
     }
-    if request.save == 0 {
-        return Status::Done;
+    if request.save.is_none() {
+        return Ok(());
     }
     save(rt, after.pool, bytes, request.save)
 }
 
 // The replay of a trace that has its settings.
-fn replay_set(rt: &HostRuntime, request: Request, pool: Pool, bytes: &[u8]) -> Status {
-    let command = request.command;
-    match printed_replay(rt, command, pool, tally::zero(), bytes) {
+fn replay_set(rt: &HostRuntime, request: &Request, pool: Pool, bytes: &[u8]) -> Result<(), Stop> {
+    match printed_replay(rt, request.command, pool, tally::zero(), bytes) {
         Ok(after) => replay_ended(rt, request, after, bytes),
-        Err(error) => files::failed(rt, b"standard output", &error),
+        Err(error) => Err(files::failed(rt, b"standard output", &error)),
     }
 }
 
-// The pool of the image that is named, or a fresh one.
-fn first_pool(from: usize, held: Pool, bytes: &[u8]) -> Pool {
-    if from == 0 {
-        return listing::fresh_for(bytes);
-    }
-    held
-}
-
-fn replay_bytes(rt: &HostRuntime, request: Request, held: Pool, bytes: &[u8]) -> Status {
-    let mut space = spaces::for_trace();
-    let refusal = amend::set(bytes, request.wish, &mut space);
-    if refusal != 0 {
-        return work::refused(rt, refusal);
-    }
-    let amended = front(&space, bytes.len());
-    let pool = first_pool(request.from, held, amended);
-    replay_set(rt, request, pool, amended)
-}
-
-fn replay_trace(rt: &HostRuntime, request: Request, held: Pool) -> Status {
-    let mut space = spaces::for_trace();
-    let input = files::read(rt, request.files[0], &mut space);
-    if input.failed {
-        return Status::Failed;
-    }
-    replay_bytes(rt, request, held, front(&space, input.size))
-}
-
-fn replay_from(rt: &HostRuntime, request: Request) -> Status {
-    let mut space = spaces::for_input();
-    let input = files::read_whole(rt, request.from, &mut space);
-    if input.failed {
-        return Status::Failed;
-    }
-    let opened = image::read(front(&space, input.size));
+// The pool of an image.
+fn read_pool(rt: &HostRuntime, from: Option<usize>) -> Result<Pool, Stop> {
+    let mut space = zeros::<INPUT_SPACE>();
+    let opened = image::read(files::read_whole(rt, from, &mut space)?);
     if opened.refusal != 0 {
-        return image_refused(rt, opened.refusal);
+        return Err(refused(rt, lines::say_image_refused(rt, opened.refusal)));
     }
-    replay_trace(rt, request, opened.pool)
+    Ok(opened.pool)
 }
 
-// Where no image is named any pool will do: it is not looked at.
-pub fn replay(rt: &HostRuntime, request: Request) -> Status {
-    if request.from == 0 {
-        let none = pool::empty(settings::one_frame());
-        return replay_trace(rt, request, none);
+// The pool of the image that is named, if one is.
+fn first_pool(rt: &HostRuntime, from: Option<usize>) -> Result<Option<Pool>, Stop> {
+    if from.is_none() {
+        return Ok(None);
     }
-    replay_from(rt, request)
+    read_pool(rt, from).map(Some)
+}
+
+// The image is read before the trace.
+pub fn replay(rt: &HostRuntime, request: &Request) -> Result<(), Stop> {
+    let held = first_pool(rt, request.from)?;
+    let mut space = zeros::<TRACE_SPACE>();
+    let read = files::read(rt, request.input, &mut space)?;
+    let mut other = zeros::<TRACE_SPACE>();
+    let bytes = amended(rt, read, request.wish, &mut other)?;
+    let pool = held.unwrap_or_else(|| listing::fresh_for(bytes));
+    replay_set(rt, request, pool, bytes)
 }

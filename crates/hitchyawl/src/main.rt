@@ -5,41 +5,26 @@ mod carry;
 mod sizes;
 mod work;
 
-use files::Status;
+use files::Stop;
 use std::process::ExitCode;
-use words::names::Command;
-use words::{Request, help};
-
-// 141 is what a shell says of a program that the system ends since nobody reads what it writes.
-fn status_code(status: Status) -> ExitCode {
-    match status {
-        Status::Done => ExitCode::from(0),
-        Status::Refused => ExitCode::from(1),
-        Status::WrongWords => ExitCode::from(2),
-        Status::Failed => ExitCode::from(3),
-        Status::Unread => ExitCode::from(141),
-    }
-}
-
-fn explain(rt: &HostRuntime, command: Command) -> Status {
-    files::printed(rt, help::say_help(rt, command), Status::Done)
-}
+use words::Asked;
+use words::help::Help;
 
 // Does what is asked, unless help is asked for or a word is wrong.
-fn answer(rt: &HostRuntime, request: Request) -> Status {
-    let command = request.command;
-    if request.help {
-        return explain(rt, command);
+fn answer(rt: &HostRuntime) -> Result<(), Stop> {
+    match words::read(rt) {
+        Ok(Asked::Work(request)) => work::run(rt, &request),
+        Ok(Asked::Help(command)) => files::printed(rt, rt.print(Help(command))),
+        Err(wrong) => {
+            wrong.tell(rt);
+            Err(Stop::WrongWords)
+        }
     }
-    if words::is_wrong(request) {
-        words::tell_fault(rt, request);
-        help::tell_usage(rt, command);
-        return Status::WrongWords;
-    }
-    work::run(rt, request)
 }
 
 fn main(rt: HostRuntime) -> ExitCode {
-    let request = words::read(&rt);
-    status_code(answer(&rt, request))
+    match answer(&rt) {
+        Ok(()) => ExitCode::SUCCESS,
+        Err(stop) => ExitCode::from(stop),
+    }
 }

@@ -1,13 +1,13 @@
 // LRU's misses at every pool size, as lines or as a picture.
 ghost use Rattle.curve.specs.Curve.{NeverRises};
 
-use crate::work;
-use files::{Status, printed};
+use crate::work::granted_number;
+use files::{Stop, printed};
 use lines::Text;
-use std::io::{Result, Write};
+use std::io::{self, Write};
 
 // A line for each size: the frames, then the misses. The last line says that these never rise.
-fn say_sizes(out: &impl Print, misses: &[u32; curve::SIZES]) -> Result<()>
+fn say_sizes(out: &impl Print, misses: &[u32; curve::SIZES]) -> io::Result<()>
     requires { NeverRises misses.now }
 {
     let mut text = Text::new(out);
@@ -19,17 +19,16 @@ fn say_sizes(out: &impl Print, misses: &[u32; curve::SIZES]) -> Result<()>
     text.flush()
 }
 
-fn draw(out: &impl Print, bytes: &[u8], misses: &[u32; curve::SIZES]) -> Result<()>
+fn draw(out: &impl Print, bytes: &[u8], misses: &[u32; curve::SIZES]) -> io::Result<()>
     requires { NeverRises misses.now }
 {
-    let c = trace::check(bytes);
-    match c {
+    match trace::check(bytes) {
         Err(_) => Ok(()),
         Ok(s) => picture::draw(out, s.count, s.settings.frames, misses),
     }
 }
 
-fn show(out: &impl Print, bytes: &[u8], misses: &[u32; curve::SIZES], svg: bool) -> Result<()>
+fn show(out: &impl Print, bytes: &[u8], misses: &[u32; curve::SIZES], svg: bool) -> io::Result<()>
     requires { NeverRises misses.now }
 {
     if svg {
@@ -38,11 +37,9 @@ fn show(out: &impl Print, bytes: &[u8], misses: &[u32; curve::SIZES], svg: bool)
     say_sizes(out, misses)
 }
 
-pub fn curve(rt: &HostRuntime, bytes: &[u8], svg: bool) -> Status {
+pub fn curve(rt: &HostRuntime, bytes: &[u8], svg: bool) -> Result<(), Stop> {
     let mut misses = [0u32; curve::SIZES];
     let refusal = curve::misses(bytes, &mut misses);
-    if refusal != 0 {
-        return work::refused(rt, refusal);
-    }
-    printed(rt, show(rt, bytes, &misses, svg), Status::Done)
+    granted_number(rt, refusal)?;
+    printed(rt, show(rt, bytes, &misses, svg))
 }

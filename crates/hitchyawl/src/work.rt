@@ -1,9 +1,13 @@
 // What each command does, with a trace that is read for it.
+ghost use Rattle.std.specs.Prelude.{◌≡◌, IfOk};
+
 use crate::{carry, sizes};
 use amend::Imported;
-use files::{Status, front, printed, spaces};
+use files::spaces::{INPUT_SPACE, TRACE_SPACE, zeros};
+use files::{Stop, printed};
 use lines::{Spaced, Text, say, say_refused};
-use std::io::{Result, Write};
+use refusal::Refusal;
+use std::io::{self, Write};
 use text::Exported;
 use wish::Wish;
 use words::Request;
@@ -12,65 +16,91 @@ use words::names::Command;
 // A quote has a line for each of eight sizes and the trace's own.
 const QUOTE_LINES: u32 = 9;
 
-pub fn refused(rt: &HostRuntime, refusal: u32) -> Status {
-    printed(rt, say_refused(rt, refusal), Status::Refused)
+// The first n bytes, or all of them where there are fewer.
+pub fn front(bytes: &[u8], n: usize) -> &[u8] {
+    bytes.get(..n).unwrap_or(bytes)
+}
+
+// A run ends where a refusal has been printed.
+pub fn refused(rt: &HostRuntime, said: io::Result<()>) -> Stop {
+    match printed(rt, said) {
+        Ok(()) => Stop::Refused,
+        Err(stop) => stop,
+    }
+}
+
+// What a call has answered that may refuse the trace; a refusal is printed.
+fn granted<T>(rt: &HostRuntime, answer: Result<T, Refusal>) -> Result<T, Stop> {
+    answer.map_err(|refusal| refused(rt, say_refused(rt, u32::from(refusal))))
+}
+
+// The same of a refusal's number, or 0.
+pub fn granted_number(rt: &HostRuntime, refusal: u32) -> Result<(), Stop>
+    ensures { IfOk result (λ _. refusal ≡ 0) }
+{
+    if refusal == 0 {
+        return Ok(());
+    }
+    Err(refused(rt, say_refused(rt, refusal)))
 }
 
 // A call that prints has answered a refusal, which it printed, or 0.
-fn ended(rt: &HostRuntime, said: Result<u32>) -> Status {
+fn ended(rt: &HostRuntime, said: io::Result<u32>) -> Result<(), Stop> {
     match said {
-        Ok(0) => Status::Done,
-        Ok(_) => Status::Refused,
-        Err(error) => files::failed(rt, b"standard output", &error),
+        Ok(0) => Ok(()),
+        Ok(_) => Err(Stop::Refused),
+        Err(error) => Err(files::failed(rt, b"standard output", &error)),
     }
 }
 
-fn check(rt: &HostRuntime, bytes: &[u8]) -> Status {
-    let c = trace::check(bytes);
-    match c {
-        Err(r) => refused(rt, u32::from(r)),
-        Ok(_) => printed(rt, say(rt, b"accepted\n"), Status::Done),
-    }
+fn check(rt: &HostRuntime, bytes: &[u8]) -> Result<(), Stop> {
+    granted(rt, trace::check(bytes))?;
+    printed(rt, say(rt, b"accepted\n"))
 }
 
-fn inspect(rt: &HostRuntime, bytes: &[u8]) -> Status {
-    ended(rt, listing::inspect(rt, bytes))
-}
-
-fn convert(rt: &HostRuntime, bytes: &[u8], output: usize) -> Status {
-    let mut space = spaces::for_trace();
-    let refusal = scribe::convert(bytes, &mut space);
-    if refusal != 0 {
-        return refused(rt, refusal);
-    }
+fn convert(rt: &HostRuntime, bytes: &[u8], output: Option<usize>) -> Result<(), Stop> {
+    let mut space = zeros::<TRACE_SPACE>();
+    granted_number(rt, scribe::convert(bytes, &mut space))?;
     files::write(rt, output, front(&space, bytes.len()))
 }
 
-fn set(rt: &HostRuntime, bytes: &[u8], wish: Wish, output: usize) -> Status {
-    let mut space = spaces::for_trace();
-    let refusal = amend::set(bytes, wish, &mut space);
-    if refusal != 0 {
-        return refused(rt, refusal);
-    }
-    files::write(rt, output, front(&space, bytes.len()))
+// The trace with the settings that are wished for, in the space.
+pub fn amended<'a>(
+    rt: &HostRuntime,
+    bytes: &[u8],
+    wish: Wish,
+    space: &'a mut [u8],
+) -> Result<&'a [u8], Stop> {
+    granted_number(rt, amend::set(bytes, wish, space))?;
+    Ok(front(space, bytes.len()))
 }
 
-fn export(rt: &HostRuntime, bytes: &[u8]) -> Status {
-    let mut space = spaces::for_lines();
-    let exported = text::export(bytes, &mut space);
-    match exported {
-        Exported::Refused(r) => refused(rt, r),
-        Exported::Written(n) => printed(rt, say(rt, front(&space, n)), Status::Done),
+fn set(rt: &HostRuntime, bytes: &[u8], request: &Request) -> Result<(), Stop> {
+    let mut space = zeros::<TRACE_SPACE>();
+    let made = amended(rt, bytes, request.wish, &mut space)?;
+    files::write(rt, request.output, made)
+}
+
+fn export(rt: &HostRuntime, bytes: &[u8]) -> Result<(), Stop> {
+    let mut space = zeros::<{ text::TEXT_LIMIT }>();
+    match text::export(bytes, &mut space) {
+        Exported::Refused(r) => Err(refused(rt, say_refused(rt, r))),
+        Exported::Written(n) => printed(rt, say(rt, front(&space, n))),
     }
 }
 
 // A line of a quote, with so many frames.
-fn put_size(text: &mut Text<'_, impl Print>, bytes: &[u8], wish: Wish, frames: u16) -> Result<()> {
+fn put_size(
+    text: &mut Text<'_, impl Print>,
+    bytes: &[u8],
+    wish: Wish,
+    frames: u16,
+) -> io::Result<()> {
     let numbers = amend::quote_line(bytes, wish, frames as u64);
     writeln!(text, "{frames}{}", Spaced(&numbers))
 }
 
-fn quote_sizes(out: &impl Print, bytes: &[u8], wish: Wish, own: u16) -> Result<()> {
+fn quote_sizes(out: &impl Print, bytes: &[u8], wish: Wish, own: u16) -> io::Result<()> {
     let mut text = Text::new(out);
     writeln!(
         text,
@@ -87,82 +117,66 @@ fn quote_sizes(out: &impl Print, bytes: &[u8], wish: Wish, own: u16) -> Result<(
     text.flush()
 }
 
-fn quote(rt: &HostRuntime, bytes: &[u8], wish: Wish) -> Status {
+fn quote(rt: &HostRuntime, bytes: &[u8], wish: Wish) -> Result<(), Stop> {
     let c = amend::counts(bytes, wish);
-    if c.refusal != 0 {
-        return refused(rt, c.refusal);
-    }
-    printed(
-        rt,
-        quote_sizes(rt, bytes, wish, c.settings.frames),
-        Status::Done,
-    )
+    granted_number(rt, c.refusal)?;
+    printed(rt, quote_sizes(rt, bytes, wish, c.settings.frames))
 }
 
 // What is said of a text's first bad line.
-fn say_bad_line(out: &impl Print, n: usize) -> Result<()> {
+fn say_bad_line(out: &impl Print, n: usize) -> io::Result<()> {
     println!(out; "line {n} refused")
 }
 
-fn import_text(rt: &HostRuntime, text: &[u8], request: Request) -> Status {
-    let mut space = spaces::for_trace();
-    let imported = amend::import(text, request.wish, words::order_of(request), &mut space);
-    match imported {
-        Imported::BadLine(n) => printed(rt, say_bad_line(rt, n), Status::Refused),
-        Imported::Refused(r) => refused(rt, r),
-        Imported::Written(n) => files::write(rt, request.files[1], front(&space, n)),
+fn import(rt: &HostRuntime, text: &[u8], request: &Request) -> Result<(), Stop> {
+    let mut space = zeros::<TRACE_SPACE>();
+    match amend::import(text, request.wish, request.order, &mut space) {
+        Imported::BadLine(n) => Err(refused(rt, say_bad_line(rt, n))),
+        Imported::Refused(r) => Err(refused(rt, say_refused(rt, r))),
+        Imported::Written(n) => files::write(rt, request.output, front(&space, n)),
     }
 }
 
-fn import(rt: &HostRuntime, request: Request) -> Status {
-    let mut space = spaces::for_input();
-    let input = files::read_whole(rt, request.files[0], &mut space);
-    if input.failed {
-        return Status::Failed;
-    }
-    import_text(rt, front(&space, input.size), request)
+// Acts on the bytes of a trace, as far as there is space for one.
+fn on_trace<F: FnOnce(&[u8]) -> Result<(), Stop>>(
+    rt: &HostRuntime,
+    input: Option<usize>,
+    act: F,
+) -> Result<(), Stop>
+    requires { F.IsAlwaysCallable act }
+{
+    let mut space = zeros::<TRACE_SPACE>();
+    act(files::read(rt, input, &mut space)?)
 }
 
-fn image(rt: &HostRuntime, request: Request) -> Status {
-    let mut space = spaces::for_input();
-    let input = files::read_whole(rt, request.files[0], &mut space);
-    if input.failed {
-        return Status::Failed;
-    }
-    ended(rt, listing::inspect_image(rt, front(&space, input.size)))
+// Acts on the bytes of a text or an image, which is read whole.
+fn on_whole<F: FnOnce(&[u8]) -> Result<(), Stop>>(
+    rt: &HostRuntime,
+    input: Option<usize>,
+    act: F,
+) -> Result<(), Stop>
+    requires { F.IsAlwaysCallable act }
+{
+    let mut space = zeros::<INPUT_SPACE>();
+    act(files::read_whole(rt, input, &mut space)?)
 }
 
-// The work on a trace's bytes, but for the replays of a `carry`.
-fn work(rt: &HostRuntime, request: Request, bytes: &[u8]) -> Status {
-    let command = request.command;
-    match command {
-        Command::Check => check(rt, bytes),
-        Command::Inspect => inspect(rt, bytes),
-        Command::Convert => convert(rt, bytes, request.files[1]),
-        Command::Set => set(rt, bytes, request.wish, request.files[1]),
-        Command::Export => export(rt, bytes),
-        Command::Quote => quote(rt, bytes, request.wish),
-        Command::Curve => sizes::curve(rt, bytes, request.svg),
-        _ => Status::WrongWords,
-    }
-}
-
-fn on_trace(rt: &HostRuntime, request: Request) -> Status {
-    let mut space = spaces::for_trace();
-    let input = files::read(rt, request.files[0], &mut space);
-    if input.failed {
-        return Status::Failed;
-    }
-    work(rt, request, front(&space, input.size))
-}
-
-pub fn run(rt: &HostRuntime, request: Request) -> Status {
-    let command = request.command;
-    match command {
-        Command::Import => import(rt, request),
-        Command::Image => image(rt, request),
-        Command::Bench => carry::replay(rt, request),
-        Command::Rows => carry::replay(rt, request),
-        _ => on_trace(rt, request),
+pub fn run(rt: &HostRuntime, request: &Request) -> Result<(), Stop> {
+    let (input, output, wish) = (request.input, request.output, request.wish);
+    match request.command {
+        Command::Check => on_trace(rt, input, |bytes| check(rt, bytes)),
+        Command::Inspect => on_trace(rt, input, |bytes| ended(rt, listing::inspect(rt, bytes))),
+        Command::Convert => on_trace(rt, input, |bytes| convert(rt, bytes, output)),
+        Command::Set => on_trace(rt, input, |bytes| set(rt, bytes, request)),
+        Command::Export => on_trace(rt, input, |bytes| export(rt, bytes)),
+        Command::Import => on_whole(rt, input, |text| import(rt, text, request)),
+        Command::Bench | Command::Rows => carry::replay(rt, request),
+        Command::Quote => on_trace(rt, input, |bytes| quote(rt, bytes, wish)),
+        Command::Image => on_whole(
+            rt,
+            input,
+            |bytes| ended(rt, listing::inspect_image(rt, bytes)),
+        ),
+        Command::Curve => on_trace(rt, input, |bytes| sizes::curve(rt, bytes, request.svg)),
     }
 }

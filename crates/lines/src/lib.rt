@@ -63,7 +63,14 @@ impl<P: Print> Write for Text<'_, P> {
         Ok(bytes.len())
     }
 
+    // What does not fit is put byte by byte.
     fn write_all(&mut self, bytes: &[u8]) -> Result<()> {
+        if bytes.len() < 4096 - self.at {
+            let end = self.at + bytes.len();
+            self.bytes[self.at..end].copy_from_slice(bytes);
+            self.at = end;
+            return Ok(());
+        }
         for byte in bytes {
             self.push(*byte)?;
         }

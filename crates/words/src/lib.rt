@@ -4,9 +4,10 @@
 pub mod help;
 pub mod names;
 
-use files::{fetch, front, same, spaces, tell};
-use names::{Command, Flag};
-use std::env::{Env, FillError};
+use files::spaces::{WORD_SPACE, zeros};
+use files::{Argument, tell};
+use names::{Command, Flag, Takes, Valued};
+use std::fmt::{self, Display, Formatter};
 use wish::Wish;
 use word::Order;
 
@@ -14,9 +15,8 @@ use word::Order;
 const RULES: u16 = 3;
 
 // What is wrong with the words.
-#[derive(Clone, Copy)]
+#[derive(Clone, Copy, Debug, PartialEq, Eq)]
 pub enum Fault {
-    Nothing,
     NoCommand,
     UnknownCommand,
     UnknownOption,
@@ -31,354 +31,302 @@ pub enum Fault {
     OutputTaken,
 }
 
-// Of a file its word's number is kept, and 0 where none is named.
+// The first fault, the number of its word, where it is one word's, and the command, where one is named.
+#[derive(Clone, Copy)]
+pub struct Wrong {
+    command: Option<Command>,
+    fault: Fault,
+    place: Option<usize>,
+}
+
+// Of a file the number of its word is kept, where one is named.
 #[derive(Clone, Copy)]
 pub struct Request {
     pub command: Command,
-    pub help: bool,
-    pub files: [usize; 2],
+    pub input: Option<usize>,
+    pub output: Option<usize>,
     pub wish: Wish,
-    pub low_first: bool,
+    pub order: Order,
     // The image that a replay starts from, and the one that it leaves.
-    pub from: usize,
-    pub save: usize,
+    pub from: Option<usize>,
+    pub save: Option<usize>,
     // Whether a picture is asked for.
     pub svg: bool,
-    // How many files are named.
-    named: usize,
+}
+
+// What words ask for.
+#[derive(Clone, Copy)]
+pub enum Asked {
+    // Help on a command, or on all.
+    Help(Option<Command>),
+    Work(Request),
+}
+
+// A command's words, as far as they are read.
+#[derive(Clone, Copy)]
+struct Reading {
+    request: Request,
+    takes: Takes,
+    help: bool,
     // Whether the options have ended.
     ended: bool,
-    // The number of an option's word whose value is the next word, or 0; and the option.
-    waits: usize,
-    flag: Flag,
-    // The first fault, and the number of its word, or 0.
-    fault: Fault,
-    place: usize,
+    // The option whose value is the next word, and the number of its own.
+    waits: Option<(Valued, usize)>,
+    wrong: Option<Wrong>,
 }
 
-// A command with no words after it.
-fn bare(command: Command, help: bool) -> Request {
-    Request {
-        command: command,
-        help: help,
-        files: [0; 2],
-        wish: wish::none(),
-        low_first: false,
-        from: 0,
-        save: 0,
-        svg: false,
-        named: 0,
-        ended: false,
-        waits: 0,
-        flag: Flag::Unknown,
-        fault: Fault::Nothing,
-        place: 0,
+impl Display for Fault {
+    fn fmt<W: fmt::Write>(&self, f: &mut Formatter<W>) -> fmt::Result {
+        f.write_str(match *self {
+            Fault::NoCommand => "no command is given",
+            Fault::UnknownCommand => "no such command",
+            Fault::UnknownOption => "no such option",
+            Fault::OptionNotTaken => "not an option of this command",
+            Fault::NoValue => "the option's value is missing",
+            Fault::NoNumber => "not a number",
+            Fault::NoRule => "no such rule",
+            Fault::NoOrder => "no such order, high or low",
+            Fault::TooFewFiles => "a file is missing",
+            Fault::TooManyFiles => "one file too many",
+            Fault::InputTwice => "standard input is named twice",
+            Fault::OutputTaken => "standard output is taken",
+        })
     }
 }
 
-// The same request but for the option that waits for its value, and the fault.
-fn renewed(r: Request, flag: Flag, fault: Fault, place: usize) -> Request {
-    let command = r.command;
-    let files = r.files;
-    let wish = r.wish;
-    Request {
-        command: command,
-        help: r.help,
-        files: files,
-        wish: wish,
-        low_first: r.low_first,
-        from: r.from,
-        save: r.save,
-        svg: r.svg,
-        named: r.named,
-        ended: r.ended,
-        waits: r.waits,
-        flag: flag,
-        fault: fault,
-        place: place,
-    }
-}
-
-pub fn is_wrong(r: Request) -> bool {
-    let fault = r.fault;
-    match fault {
-        Fault::Nothing => false,
-        _ => true,
-    }
-}
-
-// A request with a fault; the first one counts.
-fn faulty(r: Request, fault: Fault, place: usize) -> Request {
-    if is_wrong(r) {
-        return r;
-    }
-    let flag = r.flag;
-    renewed(r, flag, fault, place)
-}
-
-// A request whose next word is an option's value. It is passed over where the command does not take the option.
-fn awaiting(r: Request, flag: Flag, i: usize, taken: bool) -> Request {
-    let fault = r.fault;
-    let mut next = renewed(r, flag, fault, r.place);
-    next.waits = i;
-    if taken {
-        return next;
-    }
-    faulty(next, Fault::OptionNotTaken, i)
-}
-
-// A request for a picture, where the command draws one.
-fn drawn(r: Request, i: usize, taken: bool) -> Request {
-    let mut next = r;
-    next.svg = true;
-    if taken {
-        return next;
-    }
-    faulty(r, Fault::OptionNotTaken, i)
-}
-
-fn with_flag(r: Request, flag: Flag, i: usize) -> Request {
-    let command = r.command;
-    let taken = names::taken_by(command);
-    let mut next = r;
-    match flag {
-        Flag::Setting(_) => awaiting(r, flag, i, taken.settings),
-        Flag::Order => awaiting(r, flag, i, taken.order),
-        Flag::From => awaiting(r, flag, i, taken.images),
-        Flag::Save => awaiting(r, flag, i, taken.images),
-        Flag::Svg => drawn(r, i, taken.svg),
-        Flag::Help => {
-            next.help = true;
-            next
+impl Wrong {
+    // The line that says what is wrong with the words, and how the command is called. Where standard error cannot be written
+    // there is nowhere to tell it.
+    pub fn tell(&self, rt: &HostRuntime) {
+        let mut space = zeros::<WORD_SPACE>();
+        tell(rt, b"hitchyawl: ");
+        if let Some(word) = Argument::fetch(rt, self.place, &mut space) {
+            tell(rt, word.text);
+            tell(rt, b": ");
         }
-        Flag::Last => {
-            next.ended = true;
-            next
-        }
-        Flag::Unknown => faulty(r, Fault::UnknownOption, i),
+        let _ = rt.eprintln(self.fault);
+        let _ = rt.eprint(help::usage_of(self.command));
     }
-}
-
-// Places that no wish has are left alone: no option names one.
-fn with_wish(r: Request, place: usize, number: u64) -> Request {
-    let mut next = r;
-    if place < 8 {
-        let wish = wish::with(r.wish, place, number);
-        next.wish = wish;
-    }
-    next
 }
 
 fn is_rule(word: &[u8], rule: u16) -> bool {
     let name = victim::name_of(rule);
-    let letters = name.bytes;
-    same(word, front(&letters, name.length))
+    name.bytes.get(..name.length) == Some(word)
 }
 
-// The rule of this name, or the number of rules where none has it.
-fn rule_named(word: &[u8]) -> u16 {
-    for rule in 0..RULES {
-        if is_rule(word, rule) {
-            return rule;
-        }
-    }
-    RULES
+// The rule of this name.
+fn rule_named(word: &[u8]) -> Option<u16> {
+    (0..RULES).find(|rule| is_rule(word, *rule))
 }
 
-fn with_rule(r: Request, i: usize, word: &[u8]) -> Request {
-    let rule = rule_named(word);
-    if rule < RULES {
-        return with_wish(r, wish::RULE, rule as u64);
+fn order_named(word: &[u8]) -> Option<Order> {
+    match word {
+        b"high" => Some(Order::High),
+        b"low" => Some(Order::Low),
+        _ => None,
     }
-    faulty(r, Fault::NoRule, i)
-}
-
-fn with_setting(r: Request, place: usize, i: usize, word: &[u8]) -> Request {
-    if place == wish::RULE {
-        return with_rule(r, i, word);
-    }
-    match numeral::read(word) {
-        Some(n) => with_wish(r, place, n),
-        None => faulty(r, Fault::NoNumber, i),
-    }
-}
-
-fn with_order(r: Request, i: usize, word: &[u8]) -> Request {
-    let mut next = r;
-    next.low_first = same(word, b"low");
-    if next.low_first | same(word, b"high") {
-        return next;
-    }
-    faulty(r, Fault::NoOrder, i)
-}
-
-fn with_value(r: Request, i: usize, word: &[u8]) -> Request {
-    let flag = r.flag;
-    let mut next = r;
-    next.waits = 0;
-    match flag {
-        Flag::Setting(place) => with_setting(next, place, i, word),
-        Flag::Order => with_order(next, i, word),
-        Flag::From => {
-            next.from = i;
-            next
-        }
-        Flag::Save => {
-            next.save = i;
-            next
-        }
-        _ => next,
-    }
-}
-
-fn with_file(r: Request, i: usize) -> Request {
-    let mut next = r;
-    let named = r.named;
-    if named < 2 {
-        next.files[named] = i;
-        next.named = named + 1;
-        return next;
-    }
-    faulty(r, Fault::TooManyFiles, i)
 }
 
 // Whether a word is an option: `-` alone is a file.
 fn is_flag(word: &[u8]) -> bool {
-    if word.len() < 2 {
-        return false;
-    }
-    word[0] == b'-'
+    word.len() > 1 && word.starts_with(b"-")
 }
 
-fn with_word(rt: &HostRuntime, r: Request, i: usize) -> Request {
-    let mut space = spaces::for_word();
-    let n = fetch(rt, i, &mut space);
-    let word = front(&space, n);
-    if r.waits != 0 {
-        return with_value(r, i, word);
-    }
-    if r.ended | !is_flag(word) {
-        return with_file(r, i);
-    }
-    with_flag(r, names::flag_named(word), i)
+// Whether a word is there and names no file, but standard input or output.
+fn is_standard(rt: &HostRuntime, place: Option<usize>) -> bool {
+    let mut space = zeros::<WORD_SPACE>();
+    Argument::fetch(rt, place, &mut space).is_some_and(|word| word.is(b"-"))
 }
 
-// Whether word i is there and names no file, but standard input or output.
-fn is_standard(rt: &HostRuntime, i: usize) -> bool {
-    if i == 0 {
-        return false;
-    }
-    let mut space = spaces::for_word();
-    let n = fetch(rt, i, &mut space);
-    same(front(&space, n), b"-")
-}
-
-// The faults of files that are named rightly, but that cannot be read or written beside each other.
-fn together(rt: &HostRuntime, r: Request) -> Request {
-    let first = r.files[0];
-    if is_standard(rt, r.from) && (first == 0 || is_standard(rt, first)) {
-        return faulty(r, Fault::InputTwice, r.from);
-    }
-    if is_standard(rt, r.save) {
-        return faulty(r, Fault::OutputTaken, r.save);
-    }
-    r
-}
-
-// The faults that show once all words are read.
-fn whole(rt: &HostRuntime, r: Request) -> Request {
-    let command = r.command;
-    let taken = names::taken_by(command);
-    if r.waits != 0 {
-        return faulty(r, Fault::NoValue, r.waits);
-    }
-    if r.named < taken.least {
-        return faulty(r, Fault::TooFewFiles, 0);
-    }
-    if taken.most < r.named {
-        let last = r.files[1];
-        return faulty(r, Fault::TooManyFiles, last);
-    }
-    together(rt, r)
-}
-
-// How many words there are, with the program's own name.
-fn word_count(rt: &HostRuntime) -> usize {
-    for i in 0..usize::MAX {
-        match rt.arg(i, &mut []) {
-            Err(FillError::NotPresent) => return i,
-            _ => {}
+impl Reading {
+    // A command with no words after it.
+    fn new(command: Command) -> Reading {
+        Reading {
+            request: Request {
+                command,
+                input: None,
+                output: None,
+                wish: wish::none(),
+                order: Order::High,
+                from: None,
+                save: None,
+                svg: false,
+            },
+            takes: command.takes(),
+            help: false,
+            ended: false,
+            waits: None,
+            wrong: None,
         }
     }
-    usize::MAX
+
+    // The first fault counts.
+    fn fault(&mut self, fault: Fault, place: Option<usize>) {
+        let command = Some(self.request.command);
+        self.wrong = self.wrong.or(Some(Wrong {
+            command,
+            fault,
+            place,
+        }));
+    }
+
+    // Places that no wish has are left alone: no option names one.
+    fn take_wish(&mut self, place: usize, number: u64) {
+        if place < 8 {
+            self.request.wish = wish::with(self.request.wish, place, number);
+        }
+    }
+
+    fn take_setting(&mut self, place: usize, word: Argument) {
+        let (number, fault) = if place == wish::RULE {
+            (rule_named(word.text).map(u64::from), Fault::NoRule)
+        } else {
+            (numeral::read(word.text), Fault::NoNumber)
+        };
+        match number {
+            Some(number) => self.take_wish(place, number),
+            None => self.fault(fault, Some(word.number)),
+        }
+    }
+
+    fn take_order(&mut self, word: Argument) {
+        match order_named(word.text) {
+            Some(order) => self.request.order = order,
+            None => self.fault(Fault::NoOrder, Some(word.number)),
+        }
+    }
+
+    fn take_value(&mut self, option: Valued, word: Argument) {
+        match option {
+            Valued::Setting(place) => self.take_setting(place, word),
+            Valued::Order => self.take_order(word),
+            Valued::From => self.request.from = Some(word.number),
+            Valued::Save => self.request.save = Some(word.number),
+        }
+    }
+
+    fn take_file(&mut self, number: usize) {
+        if self.request.input.is_none() {
+            self.request.input = Some(number);
+        } else if self.request.output.is_none() {
+            self.request.output = Some(number);
+        } else {
+            self.fault(Fault::TooManyFiles, Some(number));
+        }
+    }
+
+    fn is_taken(&self, option: Valued) -> bool {
+        match option {
+            Valued::Setting(_) => self.takes.settings,
+            Valued::Order => self.takes.order,
+            Valued::From | Valued::Save => self.takes.images,
+        }
+    }
+
+    // An option's value is passed over where the command does not take the option.
+    fn await_value(&mut self, option: Valued, number: usize) {
+        self.waits = Some((option, number));
+        if !self.is_taken(option) {
+            self.fault(Fault::OptionNotTaken, Some(number));
+        }
+    }
+
+    fn take_flag(&mut self, word: Argument) {
+        match Flag::named(word.text) {
+            Some(Flag::Valued(option)) => self.await_value(option, word.number),
+            Some(Flag::Svg) if self.takes.svg => self.request.svg = true,
+            Some(Flag::Svg) => self.fault(Fault::OptionNotTaken, Some(word.number)),
+            Some(Flag::Help) => self.help = true,
+            Some(Flag::Last) => self.ended = true,
+            None => self.fault(Fault::UnknownOption, Some(word.number)),
+        }
+    }
+
+    fn take_word(&mut self, word: Argument) {
+        match self.waits.take() {
+            Some((option, _)) => self.take_value(option, word),
+            None if self.ended || !is_flag(word.text) => self.take_file(word.number),
+            None => self.take_flag(word),
+        }
+    }
+
+    // Takes the word of a number, and answers whether there is one.
+    fn take_next(&mut self, rt: &HostRuntime, number: usize) -> bool {
+        let mut space = zeros::<WORD_SPACE>();
+        match Argument::fetch(rt, Some(number), &mut space) {
+            Some(word) => {
+                self.take_word(word);
+                true
+            }
+            None => false,
+        }
+    }
+
+    // The faults of files that are named rightly, but that cannot be read or written beside each other.
+    fn end_together(&mut self, rt: &HostRuntime) {
+        let request = self.request;
+        let from_input = request.input.is_none() || is_standard(rt, request.input);
+        if from_input && is_standard(rt, request.from) {
+            self.fault(Fault::InputTwice, request.from);
+        } else if is_standard(rt, request.save) {
+            self.fault(Fault::OutputTaken, request.save);
+        }
+    }
+
+    // The faults that show once all words are read.
+    fn end(&mut self, rt: &HostRuntime) {
+        match (self.waits, self.request.output) {
+            (Some((_, number)), _) => self.fault(Fault::NoValue, Some(number)),
+            (None, None) if self.takes.output => self.fault(Fault::TooFewFiles, None),
+            (None, Some(number)) if !self.takes.output => {
+                self.fault(Fault::TooManyFiles, Some(number))
+            }
+            _ => self.end_together(rt),
+        }
+    }
+
+    // What is asked for. Help is given whatever is wrong.
+    fn asked(&self) -> Result<Asked, Wrong> {
+        if self.help {
+            return Ok(Asked::Help(Some(self.request.command)));
+        }
+        match self.wrong {
+            Some(wrong) => Err(wrong),
+            None => Ok(Asked::Work(self.request)),
+        }
+    }
 }
 
-fn with_rest(rt: &HostRuntime, begun: Request) -> Request {
-    let mut r = begun;
-    for i in 2..word_count(rt) {
-        r = with_word(rt, r, i);
+// What the words after a command ask for.
+fn read_rest(rt: &HostRuntime, command: Command) -> Result<Asked, Wrong> {
+    let mut reading = Reading::new(command);
+    for number in 2..usize::MAX {
+        if !reading.take_next(rt, number) {
+            break;
+        }
     }
-    whole(rt, r)
+    reading.end(rt);
+    reading.asked()
 }
 
-fn without_command(rt: &HostRuntime, r: Request) -> Request {
-    if word_count(rt) < 2 {
-        return faulty(r, Fault::NoCommand, 0);
-    }
-    faulty(r, Fault::UnknownCommand, 1)
+// No command, for this reason.
+fn without_command(fault: Fault, place: Option<usize>) -> Result<Asked, Wrong> {
+    Err(Wrong {
+        command: None,
+        fault,
+        place,
+    })
 }
 
 // What the words ask for, or what is wrong with them.
-pub fn read(rt: &HostRuntime) -> Request {
-    let mut space = spaces::for_word();
-    let n = fetch(rt, 1, &mut space);
-    let word = front(&space, n);
-    let command = names::command_named(word);
-    let r = bare(command, names::is_help(word));
-    match command {
-        Command::Unknown => without_command(rt, r),
-        _ => with_rest(rt, r),
+pub fn read(rt: &HostRuntime) -> Result<Asked, Wrong> {
+    let mut space = zeros::<WORD_SPACE>();
+    let Some(word) = Argument::fetch(rt, Some(1), &mut space) else {
+        return without_command(Fault::NoCommand, None);
+    };
+    match Command::named(word.text) {
+        Some(command) => read_rest(rt, command),
+        None if word.is(b"--help") => Ok(Asked::Help(None)),
+        None => without_command(Fault::UnknownCommand, Some(1)),
     }
-}
-
-pub fn order_of(r: Request) -> Order {
-    if r.low_first {
-        return Order::Low;
-    }
-    Order::High
-}
-
-fn tell_word(rt: &HostRuntime, i: usize) {
-    let mut space = spaces::for_word();
-    let n = fetch(rt, i, &mut space);
-    tell(rt, front(&space, n));
-    tell(rt, b": ");
-}
-
-fn tell_reason(rt: &HostRuntime, fault: Fault) {
-    match fault {
-        Fault::Nothing => tell(rt, b"nothing is wrong\n"),
-        Fault::NoCommand => tell(rt, b"no command is given\n"),
-        Fault::UnknownCommand => tell(rt, b"no such command\n"),
-        Fault::UnknownOption => tell(rt, b"no such option\n"),
-        Fault::OptionNotTaken => tell(rt, b"not an option of this command\n"),
-        Fault::NoValue => tell(rt, b"the option's value is missing\n"),
-        Fault::NoNumber => tell(rt, b"not a number\n"),
-        Fault::NoRule => tell(rt, b"no such rule\n"),
-        Fault::NoOrder => tell(rt, b"no such order, high or low\n"),
-        Fault::TooFewFiles => tell(rt, b"a file is missing\n"),
-        Fault::TooManyFiles => tell(rt, b"one file too many\n"),
-        Fault::InputTwice => tell(rt, b"standard input is named twice\n"),
-        Fault::OutputTaken => tell(rt, b"standard output is taken\n"),
-    }
-}
-
-// The line that says what is wrong with the words.
-pub fn tell_fault(rt: &HostRuntime, r: Request) {
-    let fault = r.fault;
-    tell(rt, b"hitchyawl: ");
-    if r.place != 0 {
-        tell_word(rt, r.place);
-    }
-    tell_reason(rt, fault);
 }
