@@ -123,12 +123,14 @@ fn try_write(text: &mut Text<'_, impl Print>, pool: Pool, case: &Case) -> Result
 fn try_step(text: &mut Text<'_, impl Print>, pool: Pool, case: &Case) -> Result<()> {
     let mut lent = [7u32; LIST_ROOM];
     let list = &mut lent[..case.places.min(LIST_ROOM)];
-    let stepped = replay::step(pool, case.tally, case.page, case.kind, list);
-    writeln!(text, "step {}", stepped.refusal)?;
-    dump::put_row(text, stepped.row)?;
+    let (mut pool, mut tally) = (pool, case.tally);
+    let stepped = replay::step(&mut pool, &mut tally, case.page, case.kind, list);
+    let answer = refusal::answer_of(stepped.map(|_| ()));
+    writeln!(text, "step {answer}")?;
+    dump::put_row(text, stepped.unwrap_or_else(|r| tally::refused_row(u32::from(r))))?;
     writeln!(text, "list{}", Spaced(list))?;
-    dump::put_pool(text, &stepped.pool)?;
-    dump::put_tally(text, stepped.tally)
+    dump::put_pool(text, &pool)?;
+    dump::put_tally(text, tally)
 }
 
 fn try_replay(
@@ -141,12 +143,13 @@ fn try_replay(
     let mut lent_list = [7u32; LIST_ROOM];
     let rows = &mut lent_rows[..case.rows.min(ROW_ROOM)];
     let list = &mut lent_list[..case.places.min(LIST_ROOM)];
-    let ended = replay::replay(pool, case.tally, trace, rows, list);
-    writeln!(text, "replay {}", ended.refusal)?;
+    let (mut pool, mut tally) = (pool, case.tally);
+    let answer = replay::replay(&mut pool, &mut tally, trace, rows, list);
+    writeln!(text, "replay {}", refusal::answer_of(answer))?;
     writeln!(text, "rows{}", Spaced(rows))?;
     writeln!(text, "list{}", Spaced(list))?;
-    dump::put_pool(text, &ended.pool)?;
-    dump::put_tally(text, ended.tally)
+    dump::put_pool(text, &pool)?;
+    dump::put_tally(text, tally)
 }
 
 fn try_counts(
@@ -155,10 +158,11 @@ fn try_counts(
     case: &Case,
     trace: &[u8],
 ) -> Result<()> {
-    let ended = replay::counts(pool, case.tally, trace);
-    writeln!(text, "counts {}", ended.refusal)?;
-    dump::put_pool(text, &ended.pool)?;
-    dump::put_tally(text, ended.tally)
+    let (mut pool, mut tally) = (pool, case.tally);
+    let answer = replay::counts(&mut pool, &mut tally, trace);
+    writeln!(text, "counts {}", refusal::answer_of(answer))?;
+    dump::put_pool(text, &pool)?;
+    dump::put_tally(text, tally)
 }
 
 // A call on the pool that the image holds, sound or not.

@@ -42,10 +42,9 @@ use Rattle.tally.specs.Tally.{counted_by}
 use Rattle.effect.specs.Record.{Did, pin_limit, pins_at, refusal, unpin_of, record_of}
 use Rattle.effect.proofs.Ways.{unpin_absent, unpin_none, unpin_one}
 use Rattle.effect.proofs.Answers.{EveryPinned, limit_refuses, hit_answers, refused_still}
-use Rattle.replay.specs.declared.Stepped.{Stepped}
 use Rattle.replay.specs.declared.Ended.{Ended}
 use Rattle.replay.specs.Replay.{Played, replay_to, replay_of}
-use Rattle.replay.specs.Calls.{step_refusal, stepped_of, StepInto, counts_refusal, ended_of, counts_of, ReplayInto}
+use Rattle.replay.specs.Calls.{Stepped, step_refusal, stepped_of, StepInto, counts_refusal, ended_of, counts_of, ReplayInto}
 use Rattle.replay.proofs.Laws.{doing, replay_suc}
 use Rattle.replay.proofs.Begins.{begins_sound, begins_within}
 use Rattle.replay.proofs.Going.{going}

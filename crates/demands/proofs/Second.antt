@@ -27,10 +27,9 @@ use Rattle.pool.proofs.Sizes.{Sized}
 use Rattle.tally.specs.declared.Tally.{Tally}
 use Rattle.tally.specs.Tally.{counted_by}
 use Rattle.effect.specs.Record.{record_of}
-use Rattle.replay.specs.declared.Stepped.{Stepped}
 use Rattle.replay.specs.declared.Ended.{Ended}
 use Rattle.replay.specs.Replay.{Played}
-use Rattle.replay.specs.Calls.{step_refusal, stepped_of, StepInto, ReplayInto}
+use Rattle.replay.specs.Calls.{Stepped, step_refusal, stepped_of, StepInto, ReplayInto}
 use Rattle.replay.proofs.Laws.{replay_none, replay_suc}
 use Rattle.worked.proofs.Settled.{ran, each_record, each_page, counts_agree, tally_counts}
 use Rattle.image.proofs.Undo.{save_grants, save_read, read_encodes, read_sound, read_save, one_image}

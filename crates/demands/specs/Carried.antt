@@ -7,10 +7,9 @@ use Rattle.pool.specs.declared.Pool.{Pool}
 use Rattle.image.specs.Layout.{image_length, used_in}
 use Rattle.image.specs.Image.{image_of, SavedTo, Typed}
 use Rattle.tally.specs.declared.Tally.{Tally}
-use Rattle.replay.specs.declared.Stepped.{Stepped}
 use Rattle.replay.specs.declared.Ended.{Ended}
 use Rattle.replay.specs.Replay.{replay_of, joined, gone_on}
-use Rattle.replay.specs.Calls.{StepInto, counts_of, ReplayInto}
+use Rattle.replay.specs.Calls.{Stepped, StepInto, counts_of, ReplayInto}
 use Rattle.rename.specs.Sameness.{AreBytes}
 
 -- the pool that is read from what a writer of images stored for pool p

@@ -20,10 +20,9 @@ use Rattle.tally.specs.declared.Tally.{Tally}
 use Rattle.tally.specs.Rows.{refused_by, is_refused}
 use Rattle.tally.specs.Tally.{counted_by}
 use Rattle.effect.specs.Record.{record_of}
-use Rattle.replay.specs.declared.Stepped.{Stepped}
 use Rattle.replay.specs.declared.Ended.{Ended}
 use Rattle.replay.specs.Replay.{replay_to}
-use Rattle.replay.specs.Calls.{step_refusal, StepInto, counts_refusal, counts_of, replay_refusal, ReplayInto}
+use Rattle.replay.specs.Calls.{Stepped, step_refusal, StepInto, counts_refusal, counts_of, replay_refusal, ReplayInto}
 use Rattle.curve.specs.Curve.{sizes, curve_refusal, CurveInto}
 use Rattle.host.specs.Counts.{host_refusal, CountsInto}
 use Rattle.host.specs.Curve.{curve_length, CurveBytesInto}

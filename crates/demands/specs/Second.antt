@@ -19,10 +19,9 @@ use Rattle.image.specs.Image.{order_of, image_of, SavedTo, Typed}
 use Rattle.tally.specs.declared.Tally.{Tally}
 use Rattle.tally.specs.Tally.{counted_by, counted_rows}
 use Rattle.effect.specs.Record.{Did, record_of}
-use Rattle.replay.specs.declared.Stepped.{Stepped}
 use Rattle.replay.specs.declared.Ended.{Ended}
 use Rattle.replay.specs.Replay.{started, replay_to, replay_of}
-use Rattle.replay.specs.Calls.{StepInto, counts_of, ReplayInto}
+use Rattle.replay.specs.Calls.{Stepped, StepInto, counts_of, ReplayInto}
 use Rattle.worked.specs.Rows.{row_in}
 use Rattle.rename.specs.Sameness.{AreBytes, Stored}
 

@@ -17,7 +17,8 @@ pub fn counts(bytes: &[u8], summary: Summary) -> Tally
     if summary.count == 0 {
         return tally::zero();
     }
-    let fresh = pool::empty(summary.settings);
-    let ended = replay::count(fresh, tally::zero(), bytes, summary);
-    ended.tally
+    let mut pool = pool::empty(summary.settings);
+    let mut tally = tally::zero();
+    replay::count(&mut pool, &mut tally, bytes, summary);
+    tally
 }

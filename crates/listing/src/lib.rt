@@ -6,7 +6,7 @@ ghost use Rattle.std.specs.Prelude.{◌≡◌, ◌+◌, ◌<◌, ◌≤◌, leng
 ghost use Rattle.trace.specs.Check.{check_of, number_of_answer};
 ghost use Rattle.pool.specs.Pool.{fresh_of};
 ghost use Rattle.image.specs.Image.{image_of};
-ghost use Rattle.replay.specs.Calls.{counts_of};
+ghost use Rattle.replay.specs.Calls.{counts_of, ReplayInto};
 ghost use Rattle.listing.specs.Fresh.{fresh_for};
 
 use lines::{Spaced, Text, say_image_refused, say_refused};
@@ -213,11 +213,43 @@ pub fn inspect_image(out: &impl Print, bytes: &[u8]) -> Result<u32>
     Ok(opened.refusal)
 }
 
+// What a pool and a tally come to, counted only.
+fn counted(mut pool: Pool, mut tally: Tally, bytes: &[u8]) -> Ended
+    ensures { result ≡ counts_of pool tally bytes.now }
+{
+    let answer = replay::counts(&mut pool, &mut tally, bytes);
+    let refusal = refusal::answer_of(answer);
+    Ended {
+        refusal,
+        pool,
+        tally,
+    }
+}
+
+// And with rows and written pages.
+fn replayed(
+    mut pool: Pool,
+    mut tally: Tally,
+    bytes: &[u8],
+    rows: &mut [u32],
+    written: &mut [u32],
+) -> Ended
+    ensures { ReplayInto pool tally bytes.now rows.old written.old result rows.new written.new }
+{
+    let answer = replay::replay(&mut pool, &mut tally, bytes, rows, written);
+    let refusal = refusal::answer_of(answer);
+    Ended {
+        refusal,
+        pool,
+        tally,
+    }
+}
+
 // Replays a trace and prints its sheet, or that it is refused.
 pub fn sheet(out: &impl Print, pool: Pool, tally: Tally, bytes: &[u8]) -> Result<Ended>
     ensures { IfOk result (λ ended. ended ≡ counts_of pool tally bytes.now) }
 {
-    let ended = replay::counts(pool, tally, bytes);
+    let ended = counted(pool, tally, bytes);
     if ended.refusal != 0 {
         say_refused(out, ended.refusal)?;
         return Ok(ended);
@@ -234,7 +266,7 @@ pub fn list(out: &impl Print, pool: Pool, tally: Tally, bytes: &[u8]) -> Result<
 {
     let mut rows = [0u32; ROWS];
     let mut written = [0u32; WRITTEN];
-    let ended = replay::replay(pool, tally, bytes, &mut rows, &mut written);
+    let ended = replayed(pool, tally, bytes, &mut rows, &mut written);
     if ended.refusal != 0 {
         say_refused(out, ended.refusal)?;
         return Ok(ended);

@@ -11,8 +11,7 @@ use Rattle.tally.specs.declared.Row.{Row}
 use Rattle.tally.specs.declared.Tally.{Tally}
 use Rattle.tally.specs.Tally.{counted_by}
 use Rattle.effect.specs.Record.{Did, record_of}
-use Rattle.replay.specs.declared.Stepped.{Stepped}
-use Rattle.replay.specs.Calls.{may_begin, step_refusal, stepped_of, StepInto}
+use Rattle.replay.specs.Calls.{Stepped, may_begin, step_refusal, stepped_of, StepInto}
 use Rattle.rename.specs.Renamed.{renamed_pool, renamed_stepped}
 use Rattle.rename.specs.Sameness.{resident_pages, Renames}
 use Rattle.rename.specs.Calls.{StepRenamed, StepDemand}

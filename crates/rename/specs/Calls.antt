@@ -7,10 +7,9 @@ use Rattle.pool.specs.declared.Pool.{Pool}
 use Rattle.pool.specs.Sound.{sound_pool}
 use Rattle.tally.specs.declared.Tally.{Tally}
 use Rattle.effect.specs.Record.{record_of}
-use Rattle.replay.specs.declared.Stepped.{Stepped}
 use Rattle.replay.specs.declared.Ended.{Ended}
 use Rattle.replay.specs.Replay.{replay_of, rows_numbers}
-use Rattle.replay.specs.Calls.{step_refusal, stepped_of, StepInto, replay_refusal, ended_of, counts_of, ReplayInto}
+use Rattle.replay.specs.Calls.{Stepped, step_refusal, stepped_of, StepInto, replay_refusal, ended_of, counts_of, ReplayInto}
 use Rattle.rename.specs.Renamed.{renamed_pages, renamed_pool, renamed_bytes, renamed_row, renamed_stepped, renamed_ended}
 use Rattle.rename.specs.Sameness.{resident_pages, pages_together, Renames, Given}
 

@@ -14,8 +14,7 @@ use Rattle.image.specs.Image.{order_of, image_of, SavedTo, Typed}
 use Rattle.tally.specs.declared.Tally.{Tally}
 use Rattle.replay.specs.declared.Ended.{Ended}
 use Rattle.replay.specs.Replay.{replay_of}
-use Rattle.replay.specs.declared.Stepped.{Stepped}
-use Rattle.replay.specs.Calls.{StepInto, counts_of, ReplayInto}
+use Rattle.replay.specs.Calls.{Stepped, StepInto, counts_of, ReplayInto}
 use Rattle.rename.specs.Renamed.{renamed_pool, renamed_bytes, renamed_played, renamed_ended}
 use Rattle.rename.specs.Sameness.{AreBytes, resident_pages, pages_together, Renames}
 use Rattle.rename.specs.Calls.{StepRenamed, ReplayRenamed}

@@ -10,10 +10,9 @@ use Rattle.pool.specs.declared.Pool.{Pool}
 use Rattle.pool.specs.Pool.{with_page, with_frames}
 use Rattle.tally.specs.declared.Row.{Row}
 use Rattle.tally.specs.Rows.{row, is_eviction}
-use Rattle.replay.specs.declared.Stepped.{Stepped}
 use Rattle.replay.specs.declared.Ended.{Ended}
 use Rattle.replay.specs.Replay.{Played}
-use Rattle.replay.specs.Calls.{ended_as}
+use Rattle.replay.specs.Calls.{Stepped, ended_as}
 
 module _ (ρ : ℕ → ℕ) where
   -- a list of pages, such as those of a trace or those written: each page

@@ -1,12 +1,11 @@
 -- The calls, over variables: which refusal, and what follows from it.
 use mathlib.Core.Path.{◌≡◌, refl, ap, sym, ◌∙◌}
-use mathlib.Core.Bool.{Bool, true, false}
+use mathlib.Core.Bool.{true, false}
 use mathlib.Core.List.{List}
-use Prim.Native.Nat.{ℕ, zero, suc, ◌<◌}
-use native.Mathlib.Omega.{arith}
+use Prim.Native.Nat.{ℕ, zero, suc}
 use lib.ListN.{length}
-use Rattle.refusal.specs.Refusals.{demand, or_else, no_room, not_sound, other_settings}
-use Rattle.refusal.proofs.Laws.{met, or_first}
+use Rattle.refusal.specs.Refusals.{demand, no_room, not_sound, other_settings}
+use Rattle.refusal.proofs.Laws.{or_first}
 use Rattle.settings.specs.declared.Settings.{Settings}
 use Rattle.settings.specs.Settings.{same_settings}
 use Rattle.trace.specs.declared.Summary.{Summary}
@@ -19,11 +18,6 @@ use Rattle.replay.specs.declared.Ended.{Ended}
 use Rattle.replay.specs.Replay.{replay_of}
 use Rattle.replay.specs.Calls.{may_begin, room_for, counts_refusal, replay_refusal, ended_as, ended_of, counts_of, ReplayInto}
 use Rattle.replay.specs.ForCode.{RanInto}
-
--- a demand is the first refusal, else what follows
-demand_or : (b : Bool) (r n : ℕ) → 0 < r → or_else (demand b r 0) n ≡ demand b r n
-demand_or true r n some = refl
-demand_or false r n some = sym (or_first r n (λ e. omega arith))
 
 -- what the checker told of an accepted trace
 pub settings_of_lem : (s : List ℕ) (h : Summary) (x : Settings) → check_of s ≡ Accepted h → same_settings h.settings x ≡ same_settings (trace_of s).settings x
@@ -73,16 +67,13 @@ module _ (p : Pool) (t : Tally) (s : List ℕ) where
     unfolding replay_refusal
     replay_first r h ne = rw h (sym (or_first r (demand (room_for p (trace_of s) (length rows) (length written)) no_room 0) ne))
 
-    pub replay_accepted : (h : Summary) → may_begin p t ≡ true → check_of s ≡ Accepted h → refusal ≡ others (demand (room_for p (trace_of s) (length rows) (length written)) no_room 0)
+    pub replay_roomless : counts_refusal p t s ≡ 0 → room_for p (trace_of s) (length rows) (length written) ≡ false → refusal ≡ no_room
     unfolding replay_refusal
-    replay_accepted h b e =
-        rw (trace_accepted h b e)
-        (demand_or (same_settings (trace_of s).settings p.settings) other_settings (demand (room_for p (trace_of s) (length rows) (length written)) no_room 0) (omega arith))
+    replay_roomless h r = rw (h, r)
 
-    pub replay_roomy : others (demand (room_for p (trace_of s) (length rows) (length written)) no_room 0) ≡ 0 → room_for p (trace_of s) (length rows) (length written) ≡ true
-    replay_roomy h =
-        let a = met (same_settings (trace_of s).settings p.settings) other_settings (demand (room_for p (trace_of s) (length rows) (length written)) no_room 0) (omega arith) h in
-        (met (room_for p (trace_of s) (length rows) (length written)) no_room 0 (omega arith) a.1).0
+    pub replay_fits : counts_refusal p t s ≡ 0 → room_for p (trace_of s) (length rows) (length written) ≡ true → refusal ≡ 0
+    unfolding replay_refusal
+    replay_fits h r = rw (h, r)
 
     pub replay_refused : (r : ℕ) (e : Ended) → refusal ≡ r → (r ≡ 0 → ⊥) → e ≡ ended_as r p t → ReplayInto p t s rows written e rows written
     replay_refused r e h ne x = go r h ne x

@@ -20,6 +20,9 @@ use Rattle.pool.specs.Pool.{frame_at}
 use Rattle.pool.specs.Sound.{sound_pool}
 use Rattle.pool.proofs.Sound.{Sound, told, made}
 use Rattle.pool.proofs.Sizes.{Sized}
+use Rattle.table.specs.declared.Bench.{Bench}
+use Rattle.table.specs.Table.{pool_on}
+use Rattle.table.proofs.Held.{frames_long}
 use Rattle.tally.specs.declared.Tally.{Tally}
 use Rattle.tally.specs.Tally.{tally_limit}
 use Rattle.tally.specs.ForCode.{Within, Countable}
@@ -119,3 +122,7 @@ module _ (p : Pool) (t : Tally) (trace : Trace) where
   -- what it comes to in the end
   pub counted_all : (q left : Pool) (u : Tally) (i : ℕ) → Counting p t trace q u i → left ≡ q → i ≡ length trace.pages → ◌≡◌ {A = Ended} (ended_as 0 left u) (ended_of 0 p t (replay_of p t trace))
   counted_all q left u i c l n = ap (λ (x : Pool). ended_as 0 x u) l ∙ counting_all p t trace q u i c n
+
+-- the pool on a bench has as many frames and log places as any
+pub sized_on : (b : Bench) → length b.access ≡ 1024 → length b.write ≡ 512 → Sized (pool_on b)
+sized_on b a w = record { frames = frames_long b.table 128; access = a; write = w }

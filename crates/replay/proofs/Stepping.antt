@@ -41,6 +41,19 @@ module _ (p : Pool) (t : Tally) (kind places : ℕ) where
       demand_few (may_begin p t) not_sound (demand (known_kind kind) bad_field room) (omega arith)
       (demand_few (known_kind kind) bad_field room (omega arith) (demand_few (leb p.settings.batch places) no_room 0 (omega arith) (omega arith)))
 
+  -- the refusals of a step, one after the other
+  pub step_unsound : may_begin p t ≡ false → step_refusal p t kind places ≡ not_sound
+  unfolding step_refusal
+  step_unsound b = rw b
+
+  pub step_unknown : may_begin p t ≡ true → known_kind kind ≡ false → step_refusal p t kind places ≡ bad_field
+  unfolding step_refusal
+  step_unknown b k = rw (b, k)
+
+  pub step_known : may_begin p t ≡ true → known_kind kind ≡ true → step_refusal p t kind places ≡ demand (leb p.settings.batch places) no_room 0
+  unfolding step_refusal
+  step_known b k = rw (b, k)
+
   pub step_met : step_refusal p t kind places ≡ 0 → (may_begin p t ≡ true) × (p.settings.batch ≤ places)
   unfolding step_refusal
   step_met h =

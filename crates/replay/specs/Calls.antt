@@ -1,16 +1,18 @@
 -- The single step, replay with rows and replay to counts: refusals, answers, and lent lists afterwards.
-use Rattle.std.specs.Prelude.{ℕ, zero, suc, ◌+◌, ◌*◌, ◌≡◌, Bool, ◌&&◌, List, length, leb}
+use Rattle.std.specs.Prelude.{ℕ, zero, suc, ◌+◌, ◌*◌, ◌≡◌, Bool, ◌&&◌, List, length, leb, Result, Ok, Err}
+use Rattle.refusal.specs.declared.Refusal.{Refusal}
+use Rattle.refusal.specs.Numbers.{number_of}
 use Rattle.refusal.specs.Refusals.{demand, or_else, stored, bad_field, no_room, not_sound, other_settings}
 use Rattle.settings.specs.Settings.{same_settings}
 use Rattle.trace.specs.Layout.{Trace, known_kind, writes_in}
 use Rattle.trace.specs.Check.{refusal_of, trace_of}
 use Rattle.pool.specs.declared.Pool.{Pool}
 use Rattle.pool.specs.Sound.{sound_pool}
+use Rattle.tally.specs.declared.Row.{Row}
 use Rattle.tally.specs.declared.Tally.{Tally}
 use Rattle.tally.specs.Rows.{refused_row}
 use Rattle.tally.specs.Tally.{tally_within, counted_by}
 use Rattle.effect.specs.Record.{Did, record_of, dirty_in}
-use Rattle.replay.specs.declared.Stepped.{Stepped}
 use Rattle.replay.specs.declared.Ended.{Ended}
 use Rattle.replay.specs.Replay.{Played, replay_of, rows_numbers}
 
@@ -24,6 +26,18 @@ step_refusal p t kind places =
     demand (may_begin p t) not_sound
     (demand (known_kind kind) bad_field
     (demand (leb p.settings.batch places) no_room 0))
+
+-- what a step gives: a refusal or 0, its row, and pool and tally afterwards
+pub record Stepped : Type 0 where
+  pub refusal : ℕ
+  pub row : Row
+  pub pool : Pool
+  pub tally : Tally
+
+-- as its answer tells; the row of a refused call is that of a refused record
+abbrev pub stepped_by : Result Row Refusal → Pool → Tally → Stepped
+stepped_by (Ok row) p t = record { refusal = 0; row = row; pool = p; tally = t }
+stepped_by (Err r) p t = record { refusal = number_of r; row = refused_row (number_of r); pool = p; tally = t }
 
 -- then it works as a record of a replay; a refused call hands back pool and tally as given
 abbrev pub stepped_of : ℕ → Pool → Tally → Did → Stepped

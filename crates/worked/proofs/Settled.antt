@@ -25,10 +25,9 @@ use Rattle.tally.specs.declared.Tally.{Tally}
 use Rattle.tally.specs.Rows.{row}
 use Rattle.tally.specs.Tally.{tally_limit, counted_rows}
 use Rattle.effect.specs.Record.{record_of, dirty_in}
-use Rattle.replay.specs.declared.Stepped.{Stepped}
 use Rattle.replay.specs.declared.Ended.{Ended}
 use Rattle.replay.specs.Replay.{Played, replay_to, replay_of, rows_numbers}
-use Rattle.replay.specs.Calls.{may_begin, StepInto, room_for, counts_refusal, replay_refusal, ended_of, counts_of, ReplayInto}
+use Rattle.replay.specs.Calls.{Stepped, may_begin, StepInto, room_for, counts_refusal, replay_refusal, ended_of, counts_of, ReplayInto}
 use Rattle.replay.specs.ForCode.{RanInto}
 use Rattle.replay.proofs.Laws.{doing, replay_suc, rows_length, replay_tally, numbers_length, writes_to, writes_all}
 use Rattle.replay.proofs.Begins.{begins_sound, begins_within}

@@ -5,10 +5,10 @@ pub returns-then-summary-eq0 : goal.returns-then-summary-eq0
 returns-then-summary-eq0 c =
     none_counted _ _ _ c.requires c.if-summary-eq0.true c.zero.ensures
 
-pub count-ended-requires : goal.count-ended-requires
-count-ended-requires c =
-    fresh_ready _ _ _ _ c.requires c.empty-fresh.ensures c.zero-2.ensures
+pub count-requires : goal.count-requires
+count-requires c =
+    fresh_ready _ _ _ _ c.requires c.empty-pool.ensures c.zero-tally.ensures
 
 pub returns : goal.returns
 returns c =
-    fresh_counts_are _ _ _ _ c.requires c.empty-fresh.ensures c.zero-2.ensures _ c.count-ended.ensures
+    fresh_counts_are _ _ _ _ c.requires c.empty-pool.ensures c.zero-tally.ensures _ c.count.ensures

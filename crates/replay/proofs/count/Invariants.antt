@@ -1,4 +1,3 @@
-use Prim.Native.Nat.{◌-◌, ◌≤◌}
 use mathlib.Core.Path.{◌≡◌}
 use lib.ListN.{length}
 use Rattle.trace.specs.Check.{trace_of}
@@ -7,7 +6,4 @@ use Rattle.replay.proofs.Running.{Counting}
 use Rattle.replay.proofs.count.Given as goal
 
 abbrev pub invariant-loop-i : goal.invariant-loop-i
-invariant-loop-i l = (l.i ≤ l.n) × (length l.scratch ≡ 16) × Counting l.fn.pool l.initial.t (trace_of l.bytes) (pool_on l.bench) l.t l.i
-
-abbrev pub decreases-loop-i : goal.decreases-loop-i
-decreases-loop-i l = l.n - l.i
+invariant-loop-i l = (length l.scratch ≡ 16) × Counting l.fn.pool l.initial.t (trace_of l.bytes) (pool_on l.bench) l.t l.i

@@ -1,13 +1,18 @@
-use mathlib.Core.Path.{sym, ◌∙◌}
+use mathlib.Core.Path.{refl}
 use native.Mathlib.Omega.{arith}
-use Rattle.replay.proofs.Calling.{not_begun, trace_refused, counts_refused}
+use Rattle.std.proofs.lemmas.Result.{err_from_is_err_and}
+use Rattle.refusal.proofs.Laws.{number_some}
+use Rattle.replay.proofs.Calling.{counts_refused, counts_done}
 use Rattle.replay.proofs.counts.Goals as goal
 
-pub returns-then-not-may_begin : goal.returns-then-not-may_begin
-returns-then-not-may_begin c =
-    counts_refused _ _ _ _ _ (not_begun _ _ _ (sym c.may_begin.ensures ∙ c.if-not-may_begin.true)) (λ e. omega arith) c.ending.ensures
+pub returns-in_err-accepted : goal.returns-in_err-accepted
+returns-in_err-accepted c =
+    let p = err_from_is_err_and c.from_residual.result c.from_residual.ensures.1 in
+    let some = number_some c.in_err-accepted.field-0.0 in
+    rw (p.1, p.2) (counts_refused _ _ _ _ _ c.in_err-accepted.ensures.err (λ e. omega arith) refl)
 
-pub returns-in-Err : goal.returns-in-Err
-returns-in-Err c =
-    let f = trace_refused _ _ _ _ (sym c.may_begin.ensures ∙ c.if-not-may_begin.false) (sym c.in-Err.ensures.value) in
-    counts_refused _ _ _ _ _ f.0 f.1 (rw c.from.ensures at c.ending-in-Err.ensures)
+pub count-requires : goal.count-requires
+count-requires c = c.in_ok-accepted.ensures.ok.0
+
+pub returns : goal.returns
+returns c = counts_done _ _ _ _ c.in_ok-accepted.ensures.ok.1 c.count.ensures

@@ -4,4 +4,4 @@ use Rattle.replay.proofs.may_begin.Goals as goal
 
 pub returns : goal.returns
 unfolding may_begin
-returns c = rw (c.is_ok.ensures.value, passed_is c.args.p c.check.result c.check.ensures, c.within.ensures)
+returns c = rw (c.is_ok.ensures.value, passed_is c.args.p.now c.check.result c.check.ensures, c.within.ensures)

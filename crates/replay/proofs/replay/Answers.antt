@@ -1,16 +1,31 @@
-use mathlib.Core.Path.{sym, ◌∙◌}
+use mathlib.Core.Path.{refl, sym, ◌∙◌}
 use native.Mathlib.Omega.{arith}
-use Rattle.replay.proofs.Calling.{not_begun, trace_refused, replay_first, replay_refused}
+use Rattle.std.proofs.lemmas.Result.{err_from_is_err_and}
+use Rattle.refusal.proofs.Laws.{number_some}
+use Rattle.replay.proofs.Calling.{replay_first, replay_roomless, replay_fits, replay_refused, replay_done}
 use Rattle.replay.proofs.replay.Goals as goal
 
-pub returns-then-not-begins : goal.returns-then-not-begins
-returns-then-not-begins c =
+pub returns-in_err-summary : goal.returns-in_err-summary
+returns-in_err-summary c =
     let a = c.args in
-    let e = not_begun _ _ _ (sym c.may_begin-begins.ensures ∙ c.if-not-begins.true) in
-    replay_refused _ _ _ _ _ _ _ (replay_first a.pool a.tally a.bytes.now a.rows.now a.written.now _ e (λ e. omega arith)) (λ e. omega arith) c.ending.ensures
+    let p = err_from_is_err_and c.from_residual.result c.from_residual.ensures.1 in
+    let some = number_some c.in_err-summary.field-0.0 in
+    rw (p.1, p.2) (replay_refused _ _ _ _ _ _ _ (replay_first a.pool.now a.tally.now a.bytes.now a.rows.now a.written.now _ c.in_err-summary.ensures.err (λ e. omega arith)) (λ e. omega arith) refl)
 
-pub returns-in-Err : goal.returns-in-Err
-returns-in-Err c =
+pub has_room-roomy-requires : goal.has_room-roomy-requires
+has_room-roomy-requires c = c.in_ok-summary.ensures.ok.0.accepted
+
+pub returns-in_err-demand : goal.returns-in_err-demand
+returns-in_err-demand c =
     let a = c.args in
-    let f = trace_refused _ _ _ _ (sym c.may_begin-begins.ensures ∙ c.if-not-begins.false) (sym c.in-Err.ensures.value) in
-    replay_refused _ _ _ _ _ _ _ (replay_first a.pool a.tally a.bytes.now a.rows.now a.written.now _ f.0 f.1) f.1 (rw c.from.ensures at c.ending-in-Err.ensures)
+    let p = err_from_is_err_and c.from_residual-in_err-demand.result c.from_residual-in_err-demand.ensures.1 in
+    let e = c.in_err-demand.ensures.first in
+    rw (p.1, p.2, e.1) (replay_refused _ _ _ _ _ _ _ (replay_roomless a.pool.now a.tally.now a.bytes.now a.rows.now a.written.now c.in_ok-summary.ensures.ok.1 (sym c.has_room-roomy.ensures ∙ e.0)) (λ e. omega arith) refl)
+
+pub run-requires : goal.run-requires
+run-requires c = (c.in_ok-summary.ensures.ok.0, sym c.has_room-roomy.ensures ∙ c.in_ok-demand.ensures.first)
+
+pub returns : goal.returns
+returns c =
+    let a = c.args in
+    replay_done _ _ _ _ _ _ _ _ (replay_fits a.pool.now a.tally.now a.bytes.now a.rows.now a.written.now c.in_ok-summary.ensures.ok.1 (sym c.has_room-roomy.ensures ∙ c.in_ok-demand.ensures.first)) c.run.ensures

@@ -1,4 +1,3 @@
-use Prim.Native.Nat.{◌-◌, ◌≤◌}
 use mathlib.Core.Path.{◌≡◌}
 use lib.ListN.{length}
 use Rattle.trace.specs.Check.{trace_of}
@@ -7,9 +6,6 @@ use Rattle.replay.proofs.Running.{Counting, Listing}
 use Rattle.replay.proofs.run.Given as goal
 
 abbrev pub invariant-loop-i : goal.invariant-loop-i
-invariant-loop-i l = (l.i ≤ l.n) × (length l.rows ≡ length l.initial.rows) × (length l.list ≡ length l.initial.list)
+invariant-loop-i l = (length l.rows ≡ length l.initial.rows) × (length l.list ≡ length l.initial.list)
     × Counting l.fn.pool l.initial.t (trace_of l.bytes) (pool_on l.bench) l.t l.i
     × Listing l.fn.pool l.initial.t (trace_of l.bytes) l.initial.rows l.initial.list l.rows l.list l.at l.i
-
-abbrev pub decreases-loop-i : goal.decreases-loop-i
-decreases-loop-i l = l.n - l.i
