@@ -120,8 +120,8 @@ pub fn import(text: &[u8], wish: Wish, order: Order, out: &mut [u8]) -> Imported
     ensures imports_back { ImportsBack text.now wish order result out.new }
 {
     let found = text::survey_of(text);
-    if found.bad != 0 {
-        return Imported::BadLine(found.bad);
+    if let Some(line) = found.bad {
+        return Imported::BadLine(line);
     }
     import_good(text, found.records, wish, order, out)
 }

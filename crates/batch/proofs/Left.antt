@@ -6,6 +6,7 @@ use mathlib.Core.List.{List}
 use lib.ListN.{get_or}
 use lib.Dec.{ltb}
 use Rattle.search.specs.ForCode.{rank_limit}
+use Rattle.worth.specs.declared.Fraction.{Fraction}
 use Rattle.worth.specs.Value.{less_fraction}
 use Rattle.batch.specs.Taken.{remaining, others_to}
 use Rattle.batch.specs.ForCode.{has_key, key_rank, Keys, held_value}
@@ -27,9 +28,9 @@ abbrev pub marks : List Bool → ℕ → Bool
 marks ws i = get_or ws i false
 
 -- by their values
-abbrev pub value_before : List ℕ → List ℕ → ℕ → ℕ → Bool
-value_before nums dens i j = less_fraction (held_value nums dens i) (held_value nums dens j)
+abbrev pub value_before : List Fraction → ℕ → ℕ → Bool
+value_before values i j = less_fraction (held_value values i) (held_value values j)
 
 -- those that wait and are left after n
-abbrev pub value_rest : List Bool → List ℕ → List ℕ → ℕ → ℕ → ℕ → Bool
-value_rest ws nums dens f n = remaining (marks ws) (value_before nums dens) f (others_to (marks ws) (value_before nums dens) f n)
+abbrev pub value_rest : List Bool → List Fraction → ℕ → ℕ → ℕ → Bool
+value_rest ws values f n = remaining (marks ws) (value_before values) f (others_to (marks ws) (value_before values) f n)

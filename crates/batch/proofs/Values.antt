@@ -1,4 +1,4 @@
--- WATT: the values of frames, in the batch order, and in the arrays.
+-- WATT: the values of frames, in the batch order, and as they are held.
 use mathlib.Core.Path.{◌≡◌, ap, ◌∙◌}
 use mathlib.Core.Bool.{Bool, false}
 use mathlib.Core.List.{List}
@@ -24,29 +24,29 @@ pub value_order : (p : Pool) → p.settings.rule ≡ 2 → (i j : ℕ) → less_
 unfolding batch_order
 value_order p e i j = rw e
 
--- the arrays of waiting frames and values, one frame more
+-- the marks of waiting frames and their values, one frame more
 module _ (p : Pool) (v : ℕ) where
-  pub valued_none : (ws : List Bool) (ns ds : List ℕ) → ValuedTo p v 0 ws ns ds
-  valued_none ws ns ds = record { waiting = λ i l. absurd (omega arith); values = λ i l. absurd (omega arith) }
+  pub valued_none : (ws : List Bool) (xs : List Fraction) → ValuedTo p v 0 ws xs
+  valued_none ws xs = record { waiting = λ i l. absurd (omega arith); value = λ i l. absurd (omega arith) }
 
-  module _ (ws : List Bool) (ns ds : List ℕ) (n epoch : ℕ) (a : length ws ≡ 128) (b : length ns ≡ 128) (c : length ds ≡ 128) (l : n < 128) (k : ValuedTo p v n ws ns ds) (e : epoch ≡ now_of p) where
+  module _ (ws : List Bool) (xs : List Fraction) (n epoch : ℕ) (a : length ws ≡ 128) (b : length xs ≡ 128) (l : n < 128) (k : ValuedTo p v n ws xs) (e : epoch ≡ now_of p) where
     with_frame_lem : (r : Fraction) → r ≡ pick (waits p v n) (value_in (frame_at p.frames n) p.access p.write n p.settings.weight epoch) (fraction 0 1)
-        → ValuedTo p v (n + 1) (set ws n (waits p v n)) (set ns n r.num) (set ds n r.den)
+        → ValuedTo p v (n + 1) (set ws n (waits p v n)) (set xs n r)
     with_frame_lem r g =
         let h : r ≡ value_where (waits p v n) p n = g ∙ ap (λ (x : Fraction). pick (waits p v n) x (fraction 0 1)) (value_is p n epoch e) in record {
           waiting = λ i m. elim (ℕ_discrete i n) [
             | yes q ↦ rw (q, get_or-set_same ws n (waits p v n) false (rw a l))
             | no q ↦ rw (get_or-set_other ws n i (waits p v n) false q) (k.waiting i (omega (arith, q)))
           ];
-          values = λ i m. elim (ℕ_discrete i n) [
-            | yes q ↦ rw (q, get_or-set_same ns n r.num 0 (rw b l), get_or-set_same ds n r.den 0 (rw c l)) h
-            | no q ↦ rw (get_or-set_other ns n i r.num 0 q, get_or-set_other ds n i r.den 0 q) (k.values i (omega (arith, q)))
+          value = λ i m. elim (ℕ_discrete i n) [
+            | yes q ↦ rw (q, get_or-set_same xs n r (fraction 0 0) (rw b l)) h
+            | no q ↦ rw (get_or-set_other xs n i r (fraction 0 0) q) (k.value i (omega (arith, q)))
           ];
         }
 
     pub valued_more : (fr : Frame) (w : Bool) (r : Fraction) → fr ≡ frame_at p.frames n → w ≡ waits_beside fr v n
         → r ≡ pick w (value_in fr p.access p.write n p.settings.weight epoch) (fraction 0 1)
-        → ValuedTo p v (n + 1) (set ws n w) (set ns n r.num) (set ds n r.den)
+        → ValuedTo p v (n + 1) (set ws n w) (set xs n r)
     valued_more fr w r q x g =
         let y : w ≡ waits p v n = x ∙ rw q in
         rw y (with_frame_lem r (rw (y, q) at g))

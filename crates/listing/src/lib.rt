@@ -115,10 +115,7 @@ fn put_pool(text: &mut Text<'_, impl Print>, p: &Pool) -> Result<()> {
 
 // The line of a rule's name.
 fn put_policy(text: &mut Text<'_, impl Print>, rule: u16) -> Result<()> {
-    let name = victim::name_of(rule);
-    write!(text, "policy ")?;
-    text.write_all(&name.bytes[..name.length])?;
-    writeln!(text)
+    writeln!(text, "policy {}", victim::name_of(rule))
 }
 
 fn put_counts(text: &mut Text<'_, impl Print>, t: Tally) -> Result<()> {

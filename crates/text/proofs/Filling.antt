@@ -1,22 +1,15 @@
 -- Lent lists filled from the front by what lines give.
 use mathlib.Core.Path.{◌≡◌, refl, sym, ap, ◌∙◌}
 use mathlib.Core.List.{List, [], ◌∷◌, ◌++◌, append-nil, append_assoc}
-use Prim.Native.Nat.{ℕ, ◌+◌, ◌<◌, ◌≤◌}
-use native.Mathlib.Numerals.{add-one}
+use Prim.Native.Nat.{ℕ, ◌+◌, ◌≤◌}
 use native.Mathlib.Omega.{arith}
 use native.Mathlib.Nat.{zero-add}
-use lib.ListN.{length, get_or, take, set, length-append}
-use lib.Seq.{sets, take-suc, length-take-le, length-sets}
+use lib.ListN.{length, length-append}
+use lib.Seq.{sets, length-sets}
 use Rattle.word.proofs.Laws.{sets_append}
 use Rattle.text.specs.declared.Line.{Line}
 use Rattle.text.specs.declared.Line.TheVariants.{Passed, Record, Bad}
 use Rattle.text.specs.Text.{page_of, kind_of, numbers_in}
-
--- a turn of the loop that stores bytes
-pub bytes_more : (bytes out₀ out : List ℕ) (at i : ℕ) → i < length bytes → out ≡ sets out₀ at (take i bytes)
-    → set out (at + i) (get_or bytes i 0) ≡ sets out₀ at (take (i + 1) bytes)
-bytes_more bytes out₀ out at i h e =
-    rw (e, add-one, take-suc bytes i 0 h, sets_append (take i bytes) (get_or bytes i 0 ∷ []) out₀ at, length-take-le i bytes (omega arith))
 
 -- a list with what the lines before the rest give at its front, n numbers
 pub record Filled (f : Line → List ℕ) (all rest : List Line) (l₀ l : List ℕ) (n : ℕ) : Type 0 where

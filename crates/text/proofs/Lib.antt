@@ -1,4 +1,5 @@
 pub mod Laws
+pub mod Cutting
 pub mod Filling
 pub mod Decimal
 pub mod Storing

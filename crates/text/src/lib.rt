@@ -1,15 +1,13 @@
 // A trace as text: a line for each record.
 #![tactic(auto)]
 
-ghost use Rattle.std.specs.Prelude.{◌≡◌, ◌+◌, ◌*◌, ◌≤◌, min, length, drop};
+ghost use Rattle.std.specs.Prelude.{◌≡◌, ◌+◌, ◌*◌, ◌≤◌, eqb, length, option_map, position, count_by};
+ghost use Rattle.std.specs.Iterator.{YieldsFirstRef, item_count};
 ghost use Rattle.std.proofs.lemmas.List.Edits.{sets};
 ghost use Rattle.numeral.specs.Numeral.{numeral_of};
-ghost use Rattle.search.specs.Search.{pick};
-ghost use Rattle.refusal.specs.Refusals.{or_else};
-ghost use Rattle.text.specs.Text.{begins_with, is_passed, record_line, record_if, line_of, lines_in, is_bad, first_bad, page_of, kind_of, pages_in, kinds_in, word_of, decimal_of, line_text, line_room, text_of, ExportedInto};
+ghost use Rattle.text.specs.Text.{line_feed, is_passed, record_line, line_of, lines_of, lines_in, is_bad, is_record, line_numbered, first_bad, page_of, kind_of, pages_in, kinds_in, word_of, decimal_of, line_text, line_room, text_of, ExportedInto};
 ghost use Rattle.trace.specs.Check.{check_of, trace_of};
 ghost use Rattle.trace.specs.Check.Checked.{Accepted};
-ghost use Rattle.text.specs.ForCode.{line_end};
 
 use trace::Summary;
 
@@ -21,10 +19,10 @@ pub enum Line {
     Bad,
 }
 
-// What one look through a text finds: the first bad line, counted from 1, or 0; and how many records there are.
+// What one look through a text finds: the first bad line, counted from 1, and how many records there are.
 #[derive(Clone, Copy)]
 pub struct Survey {
-    pub bad: usize,
+    pub bad: Option<usize>,
     pub records: usize,
 }
 
@@ -41,51 +39,57 @@ pub const LINE_ROOM: usize = 17;
 // The bytes of the longest text.
 pub const TEXT_LIMIT: usize = LINE_ROOM * trace::RECORD_LIMIT;
 
+// The lines of a text, one after the other: each ends in a line feed, which the last may lack.
+#[derive(Drop)]
+struct Lines<'a> {
+    text: &'a [u8],
+}
+
+impl<'a> Iterator for Lines<'a> {
+    type Item = &'a [u8];
+
+    ghost next_gives = { YieldsFirstRef (λ s. lines_of s.text.now) };
+
+    ghost remaining = { item_count (λ s. lines_of s.text.now) };
+
+    fn next(&mut self) -> Option<&'a [u8]> {
+        let text = self.text;
+        match first_feed(text) {
+            Some(end) => {
+                self.text = &text[end + 1..];
+                Some(&text[..end])
+            }
+            None if text.is_empty() => None,
+            None => {
+                self.text = &text[text.len()..];
+                Some(text)
+            }
+        }
+    }
+}
+
+// Where the first line feed of a text is.
+fn first_feed(text: &[u8]) -> Option<usize>
+    ensures { result ≡ position (λ c. eqb c line_feed) text.now }
+{
+    text.iter().position(|c| *c == b'\n')
+}
+
 // Whether a line is empty or a remark.
 fn is_passed(line: &[u8]) -> bool
     ensures { result ≡ is_passed line.now }
 {
-    if line.len() == 0 {
-        return true;
-    }
-    line[0] == b'#'
+    line.is_empty() || line[0] == b'#'
 }
 
-// Whether a line begins with a word.
-fn begins(line: &[u8], word: &[u8]) -> bool
-    ensures { result ≡ begins_with word.now line.now }
+// A record of a kind, whose page is what stands behind the kind's word.
+fn record_of(kind: u16, page: &[u8]) -> Line
+    ensures { result ≡ record_line kind (numeral_of page.now) }
 {
-    if line.len() < word.len() {
-        return false;
-    }
-    let mut same = true;
-    let mut i: usize = 0;
-    while i < word.len() {
-        same = same & (word[i] == line[i]);
-        i += 1;
-    }
-    same
-}
-
-// A record of a kind, whose page is what stands from `at` on.
-fn record_from(kind: u16, line: &[u8], at: usize) -> Line
-    requires { at ≤ length line.now }
-    ensures { result ≡ record_line kind (numeral_of (drop at line.now)) }
-{
-    match numeral::read(&line[at..]) {
+    match numeral::read(page) {
         Some(page) if page < numeral::NUMBER_LIMIT => Line::Record(kind, page as u32),
         _ => Line::Bad,
     }
-}
-
-// The record of a kind where the line begins with the kind's word, else what it is otherwise.
-fn if_kind(kind: u16, word: &[u8], line: &[u8], otherwise: Line) -> Line
-    ensures { result ≡ record_if kind word.now line.now otherwise }
-{
-    if begins(line, word) {
-        return record_from(kind, line, word.len());
-    }
-    otherwise
 }
 
 pub fn line_of(line: &[u8]) -> Line
@@ -94,84 +98,55 @@ pub fn line_of(line: &[u8]) -> Line
     if is_passed(line) {
         return Line::Passed;
     }
-    let unpin = if_kind(3, b"unpin ", line, Line::Bad);
-    let pin = if_kind(2, b"pin ", line, unpin);
-    let write = if_kind(1, b"write ", line, pin);
-    if_kind(0, b"read ", line, write)
-}
-
-// Where the line that begins at `at` ends: its line feed, or the text's end.
-fn line_end(text: &[u8], at: usize) -> usize
-    requires { at ≤ length text.now }
-    ensures { (result ≡ line_end at text.now) × (at ≤ result) × (result ≤ length text.now) }
-{
-    let mut i = at;
-    while i < text.len() {
-        if text[i] == b'\n' {
-            return i;
-        }
-        i += 1;
+    if let Some(page) = line.strip_prefix(b"read ") {
+        return record_of(0, page);
     }
-    i
-}
-
-// The place after a line's end.
-fn past(end: usize, length: usize) -> usize
-    ensures { result ≡ min (end + 1) length }
-{
-    if end < length { end + 1 } else { length }
+    if let Some(page) = line.strip_prefix(b"write ") {
+        return record_of(1, page);
+    }
+    if let Some(page) = line.strip_prefix(b"pin ") {
+        return record_of(2, page);
+    }
+    if let Some(page) = line.strip_prefix(b"unpin ") {
+        return record_of(3, page);
+    }
+    Line::Bad
 }
 
 fn is_bad(line: Line) -> bool
     ensures { result ≡ is_bad line }
 {
-    match line {
-        Line::Bad => true,
-        Line::Record(_, _) => false,
-        Line::Passed => false,
-    }
+    matches!(line, Line::Bad)
 }
 
-// The first bad line so far, once the line of this number is looked at.
-fn first_of(bad: usize, fault: bool, number: usize) -> usize
-    ensures { result ≡ or_else bad (pick fault number 0) }
+fn is_record(line: Line) -> bool
+    ensures { result ≡ is_record line }
 {
-    if bad != 0 {
-        return bad;
-    }
-    if fault { number } else { 0 }
+    matches!(line, Line::Record(_, _))
 }
 
-// How many records a line is: 1 or none.
-fn records_of(line: Line) -> usize
-    ensures { (result ≡ length (page_of line)) × (result ≤ 1) }
+// How many lines stand before the first bad one.
+fn before_bad(text: &[u8]) -> Option<usize>
+    ensures { result ≡ position (λ line. is_bad (line_of line)) (lines_of text.now) }
 {
-    match line {
-        Line::Record(_, _) => 1,
-        Line::Passed => 0,
-        Line::Bad => 0,
-    }
+    Lines { text }.position(|line| is_bad(line_of(line)))
+}
+
+fn records_of(text: &[u8]) -> usize
+    ensures { result ≡ count_by (λ line. is_record (line_of line)) (lines_of text.now) }
+{
+    Lines { text }
+        .filter(|line| is_record(line_of(line)))
+        .count()
 }
 
 // The first bad line, and how many records there are.
 pub fn survey_of(text: &[u8]) -> Survey
-    ensures { (result.bad ≡ first_bad 0 (lines_in text.now)) × (result.records ≡ length (pages_in (lines_in text.now))) }
+    ensures { (result.bad ≡ line_numbered (first_bad 0 (lines_in text.now))) × (result.records ≡ length (pages_in (lines_in text.now))) }
 {
-    let mut bad: usize = 0;
-    let mut records: usize = 0;
-    let mut lines: usize = 0;
-    let mut at: usize = 0;
-    while at < text.len() {
-        let end = line_end(text, at);
-        let line = line_of(&text[at..end]);
-        lines += 1;
-        bad = first_of(bad, is_bad(line), lines);
-        records += records_of(line);
-        at = past(end, text.len());
-    }
     Survey {
-        bad: bad,
-        records: records,
+        bad: before_bad(text).map(|before| before + 1),
+        records: records_of(text),
     }
 }
 
@@ -182,15 +157,12 @@ fn store_line(line: Line, pages: &mut [u32], kinds: &mut [u16], n: usize) -> usi
     ensures pages_after { pages.new ≡ sets pages.old n (page_of line) }
     ensures kinds_after { kinds.new ≡ sets kinds.old n (kind_of line) }
 {
-    match line {
-        Line::Record(kind, page) => {
-            pages[n] = page;
-            kinds[n] = kind;
-            return n + 1;
-        }
-        Line::Passed => n,
-        Line::Bad => n,
+    if let Line::Record(kind, page) = line {
+        pages[n] = page;
+        kinds[n] = kind;
+        return n + 1;
     }
+    n
 }
 
 // The pages and kinds of the records, at the front of two lent lists.
@@ -199,13 +171,9 @@ pub fn fill(text: &[u8], pages: &mut [u32], kinds: &mut [u16])
     ensures pages_after { pages.new ≡ sets pages.old 0 (pages_in (lines_in text.now)) }
     ensures kinds_after { kinds.new ≡ sets kinds.old 0 (kinds_in (lines_in text.now)) }
 {
-    let mut n: usize = 0;
-    let mut at: usize = 0;
-    while at < text.len() {
-        let end = line_end(text, at);
-        let line = line_of(&text[at..end]);
-        n = store_line(line, pages, kinds, n);
-        at = past(end, text.len());
+    let mut n = 0;
+    for line in (Lines { text }) {
+        n = store_line(line_of(line), pages, kinds, n);
     }
 }
 
@@ -215,12 +183,9 @@ fn put_bytes(out: &mut [u8], at: usize, bytes: &[u8]) -> usize
     ensures value { result ≡ at + length bytes.now }
     ensures out_after { out.new ≡ sets out.old at bytes.now }
 {
-    let mut i: usize = 0;
-    while i < bytes.len() {
-        out[at + i] = bytes[i];
-        i += 1;
-    }
-    at + i
+    let end = at + bytes.len();
+    out[at..end].copy_from_slice(bytes);
+    end
 }
 
 // A kind's word and the space behind it.
@@ -244,7 +209,7 @@ fn put_decimal(out: &mut [u8], at: usize, n: u32) -> usize
     ensures out_after { out.new ≡ sets out.old at (decimal_of n) }
 {
     let mut digits = [0u8; 20];
-    let count = io::decimal(n as u64, &mut digits);
+    let count = io::decimal(u64::from(n), &mut digits);
     put_bytes(out, at, &digits[..count])
 }
 
@@ -266,12 +231,10 @@ fn put_lines(bytes: &[u8], summary: Summary, out: &mut [u8]) -> usize
     ensures out_after { out.new ≡ sets out.old 0 (text_of (trace_of bytes.now)) }
 {
     let n = summary.count as usize;
-    let mut at: usize = 0;
-    let mut i: usize = 0;
-    while i < n {
+    let mut at = 0;
+    for i in 0..n {
         let record = trace::record_at(bytes, summary, i);
         at = put_line(out, at, record.kind, record.page);
-        i += 1;
     }
     at
 }

@@ -63,7 +63,12 @@ pub choice_serves : (p : Pool) → Sound p → ((choice_of p).found ≡ None →
 unfolding choice_of
 choice_serves p s = rule_serves p.settings.rule (ranges p.settings s.settings).rule p
 
--- what the rule of a number chooses and leaves is the pool's own choice
+-- what the rule of a number chooses is the pool's own choice
+pub choice_by : (p : Pool) (c : Choice) (r : ℕ) → p.settings.rule ≡ r → c ≡ (by_rule r).choice p → c ≡ choice_of p
+unfolding choice_of
+choice_by p c r e h = h ∙ rw e
+
+-- and it leaves what that leaves
 pub chose_by : (p : Pool) (r : ℕ) (found : Option ℕ) (b : Bench) → p.settings.rule ≡ r → Chose p ((by_rule r).choice p) found b → Chose p (choice_of p) found b
 unfolding choice_of
 chose_by p r found b e h = subst (λ (k : ℕ). Chose p ((by_rule k).choice p) found b) (sym e) h

@@ -5,7 +5,7 @@ pub mod clock;
 pub mod lru;
 pub mod watt;
 
-ghost use Rattle.std.specs.Prelude.{◌≡◌, ◌≤◌, true, take};
+ghost use Rattle.std.specs.Prelude.{◌≡◌, ◌≤◌, true, length};
 ghost use Rattle.pool.specs.Sound.{sound_pool};
 ghost use Rattle.table.specs.Table.{pool_on};
 ghost use Rattle.victim.specs.ForCode.{Chose};
@@ -13,32 +13,15 @@ ghost use Rattle.victim.specs.Rules.{by_rule, choice_of};
 
 use table::Bench;
 
-// A rule's name, at the front of the bytes.
-#[derive(Clone, Copy)]
-pub struct Name {
-    pub bytes: [u8; 16],
-    pub length: usize,
-}
-
-// A name of the first letters, so many.
-fn named(letters: &[u8; 16], length: usize) -> Name
-    ensures { (result.bytes ≡ letters.now) × (result.length ≡ length) }
-{
-    Name {
-        bytes: *letters,
-        length: length,
-    }
-}
-
 // The name of a rule; a number that no rule has has none.
-pub fn name_of(rule: u16) -> Name
-    ensures { (take result.length result.bytes ≡ (by_rule rule).name) × (result.length ≤ 16) }
+pub fn name_of(rule: u16) -> &'static str
+    ensures { (result.now ≡ (by_rule rule).name) × (length result.now ≤ 16) }
 {
     match rule {
-        0 => named(b"lru             ", 3),
-        1 => named(b"clock           ", 5),
-        2 => named(b"watt            ", 4),
-        3..=65535 => named(b"                ", 0),
+        0 => "lru",
+        1 => "clock",
+        2 => "watt",
+        3..=65535 => "",
     }
 }
 

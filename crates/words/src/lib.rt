@@ -110,8 +110,7 @@ impl Wrong {
 }
 
 fn is_rule(word: &[u8], rule: u16) -> bool {
-    let name = victim::name_of(rule);
-    name.bytes.get(..name.length) == Some(word)
+    victim::name_of(rule).as_bytes() == word
 }
 
 // The rule of this name.

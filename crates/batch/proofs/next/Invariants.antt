@@ -4,4 +4,4 @@ use Rattle.batch.specs.ForCode.{held_value}
 use Rattle.batch.proofs.next.Given as goal
 
 abbrev pub invariant-loop-i : goal.invariant-loop-i
-invariant-loop-i l = Best (held_value l.nums l.dens) (λ j. get_or l.waiting j false) l.i l.best l.low
+invariant-loop-i l = Best (held_value l.values) (λ j. get_or l.waiting j false) l.i l.best l.low

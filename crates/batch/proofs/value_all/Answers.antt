@@ -11,7 +11,7 @@ pub now_of-epoch-requires : goal.now_of-epoch-requires
 now_of-epoch-requires c = (ranges _ (told (pool_on c.args.bench.now) c.requires).settings).span.0
 
 pub loop-i-init : goal.loop-i-init
-loop-i-init c = (refl, refl, refl, valued_none _ _ _ _ _)
+loop-i-init c = (refl, refl, valued_none _ _ _ _)
 
 pub frame_at-fr-requires : goal.frame_at-fr-requires
 frame_at-fr-requires c =
@@ -29,15 +29,10 @@ bounds-waiting-i c =
     let few = (ranges _ (told (pool_on c.args.bench.now) c.requires).settings).frames.1 in
     omega (arith, few, c.loop-i.invariant.0)
 
-pub bounds-nums-i : goal.bounds-nums-i
-bounds-nums-i c =
+pub bounds-values-i : goal.bounds-values-i
+bounds-values-i c =
     let few = (ranges _ (told (pool_on c.args.bench.now) c.requires).settings).frames.1 in
     omega (arith, few, c.loop-i.invariant.1)
-
-pub bounds-dens-i : goal.bounds-dens-i
-bounds-dens-i c =
-    let few = (ranges _ (told (pool_on c.args.bench.now) c.requires).settings).frames.1 in
-    omega (arith, few, c.loop-i.invariant.2)
 
 pub loop-i-preserved : goal.loop-i-preserved
 loop-i-preserved c =
@@ -46,7 +41,6 @@ loop-i-preserved c =
     let r = c.loop-i in
     let v = r.invariant in (
       length-set r.waiting _ _ ∙ v.0,
-      length-set r.nums _ _ ∙ v.1,
-      length-set r.dens _ _ ∙ v.2,
-      valued_more p _ _ _ _ _ _ v.0 v.1 v.2 (omega (arith, few)) v.3 (now_is p _ c.now_of-epoch.ensures) _ _ _ c.frame_at-fr.ensures c.to_write-waits.ensures c.value_where-value.ensures,
+      length-set r.values _ _ ∙ v.1,
+      valued_more p _ _ _ _ _ v.0 v.1 (omega (arith, few)) v.2 (now_is p _ c.now_of-epoch.ensures) _ _ _ c.frame_at-fr.ensures c.to_write-waits.ensures c.value_where-value.ensures,
     )

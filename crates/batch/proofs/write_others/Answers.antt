@@ -34,13 +34,13 @@ returns-then-bench-ne2 c =
 pub write_by_value-requires : goal.write_by_value-requires
 write_by_value-requires c = (
   (ranges _ (told (pool_on c.args.bench.now) c.requires.0).settings).frames.1,
-  values_small (pool_on c.args.bench.now) (told (pool_on c.args.bench.now) c.requires.0) c.args.v _ _ _ c.if-bench-ne2.false c.value_all-values.ensures,
-  same_room _ _ c.args.at _ (others_by_value (pool_on c.args.bench.now) (told (pool_on c.args.bench.now) c.requires.0) c.args.v _ _ _ c.if-bench-ne2.false c.value_all-values.ensures (c.args.bench.now.head.settings.batch - 1)) c.requires.1,
+  values_small (pool_on c.args.bench.now) (told (pool_on c.args.bench.now) c.requires.0) c.args.v _ _ c.if-bench-ne2.false c.value_all-values.ensures,
+  same_room _ _ c.args.at _ (others_by_value (pool_on c.args.bench.now) (told (pool_on c.args.bench.now) c.requires.0) c.args.v _ _ c.if-bench-ne2.false c.value_all-values.ensures (c.args.bench.now.head.settings.batch - 1)) c.requires.1,
 )
 
 pub returns : goal.returns
 returns c =
     record {
-      wrote = same_wrote _ _ _ _ _ _ _ _ (others_by_value (pool_on c.args.bench.now) (told (pool_on c.args.bench.now) c.requires.0) c.args.v _ _ _ c.if-bench-ne2.false c.value_all-values.ensures (c.args.bench.now.head.settings.batch - 1)) c.write_by_value.ensures;
+      wrote = same_wrote _ _ _ _ _ _ _ _ (others_by_value (pool_on c.args.bench.now) (told (pool_on c.args.bench.now) c.requires.0) c.args.v _ _ c.if-bench-ne2.false c.value_all-values.ensures (c.args.bench.now.head.settings.batch - 1)) c.write_by_value.ensures;
       rest = refl;
     }

@@ -8,7 +8,7 @@ pub put_bytes-requires : goal.put_bytes-requires
 put_bytes-requires c =
     let a = c.args in
     let fits : a.n < 4294967296 = omega arith in
-    let e = decimal_is a.n c.decimal-count.result _ fits c.decimal-count.ensures.len c.decimal-count.ensures.digits in
+    let e = decimal_is a.n c.decimal-count.result _ fits (rw c.from.ensures at c.decimal-count.ensures.len) (rw c.from.ensures at c.decimal-count.ensures.digits) in
     let few = decimal_few a.n in
     rw e (omega arith)
 
@@ -16,12 +16,12 @@ pub returns-clause-value : goal.returns-clause-value
 returns-clause-value c =
     let a = c.args in
     let fits : a.n < 4294967296 = omega arith in
-    let e = decimal_is a.n c.decimal-count.result _ fits c.decimal-count.ensures.len c.decimal-count.ensures.digits in
+    let e = decimal_is a.n c.decimal-count.result _ fits (rw c.from.ensures at c.decimal-count.ensures.len) (rw c.from.ensures at c.decimal-count.ensures.digits) in
     c.put_bytes.ensures.value ∙ rw e
 
 pub returns-clause-out_after : goal.returns-clause-out_after
 returns-clause-out_after c =
     let a = c.args in
     let fits : a.n < 4294967296 = omega arith in
-    let e = decimal_is a.n c.decimal-count.result _ fits c.decimal-count.ensures.len c.decimal-count.ensures.digits in
+    let e = decimal_is a.n c.decimal-count.result _ fits (rw c.from.ensures at c.decimal-count.ensures.len) (rw c.from.ensures at c.decimal-count.ensures.digits) in
     c.put_bytes.ensures.out_after ∙ rw e

@@ -1,5 +1,5 @@
 use mathlib.Core.Path.{◌≡◌}
-use Prim.Native.Nat.{◌*◌, ◌≤◌, ◌-◌}
+use Prim.Native.Nat.{◌*◌, ◌≤◌}
 use lib.ListN.{length}
 use lib.Seq.{sets}
 use Rattle.trace.specs.Check.{trace_of}
@@ -7,9 +7,6 @@ use Rattle.text.specs.Text.{line_room, text_to}
 use Rattle.text.proofs.put_lines.Given as goal
 
 abbrev pub invariant-loop-i : goal.invariant-loop-i
-invariant-loop-i l = (l.i ≤ l.n) × (l.at ≤ line_room * l.i) × (length l.out ≡ length l.initial.out)
+invariant-loop-i l = (l.at ≤ line_room * l.i)
     × (l.at ≡ length (text_to (trace_of l.bytes).pages (trace_of l.bytes).kinds l.i))
     × (l.out ≡ sets l.initial.out 0 (text_to (trace_of l.bytes).pages (trace_of l.bytes).kinds l.i))
-
-abbrev pub decreases-loop-i : goal.decreases-loop-i
-decreases-loop-i l = l.n - l.i
