@@ -1,6 +1,8 @@
 -- Laws of decimal numbers: what one character more changes.
 use mathlib.Core.Path.{◌≡◌, refl, sym, ap, ◌∙◌}
-use mathlib.Core.Bool.{Bool, true, false, ◌&&◌, and-true, and_assoc}
+use mathlib.Core.Bool.{Bool, true, false, not, ◌&&◌, and-true, and_assoc}
+use Rattle.std.specs.Bool.{◌==◌, then_some}
+use Rattle.search.specs.Search.{pick}
 use mathlib.Core.List.{List, [], ◌∷◌, ◌++◌}
 use Rattle.std.specs.Prelude.{Some, None}
 use Prim.Native.Nat.{ℕ, ◌+◌, ◌*◌, ◌-◌, ◌<◌, min}
@@ -9,6 +11,7 @@ use native.Mathlib.Omega.{arith}
 use lib.ListN.{length, get_or, take}
 use lib.Seq.{take-suc}
 use lib.Dec.{ltb}
+use Rattle.std.proofs.lemmas.Bool.Decides.{nat_tests}
 use Rattle.numeral.specs.Numeral.{number_limit, is_digit, all_digits, value_after, numeral_of}
 
 pub all_snoc : (l : List ℕ) (c : ℕ) → all_digits (l ++ (c ∷ [])) ≡ (all_digits l && is_digit c)
@@ -34,11 +37,16 @@ value_more l i n m h e f =
     f ∙ ap (λ (x : ℕ). min (x * 10 + (get_or l i 0 - 48)) number_limit) e ∙ cut_twice v (get_or l i 0 - 48)
     ∙ sym (rw (add-one, take-suc l i 0 h, value_snoc (take i l) 0 (get_or l i 0)))
 
--- the two answers
-pub is_number : (s : List ℕ) (d : Bool) (n : ℕ) → d ≡ all_digits s → n ≡ min (value_after 0 s) number_limit → (d && ltb 0 (length s)) ≡ true → Some n ≡ numeral_of s
-unfolding numeral_of
-is_number s d n e f t = rw (f, ← e, t)
+-- one character or more
+some_text : (s : List ℕ) → not (length s == 0) ≡ ltb 0 (length s)
+some_text [] = refl
+some_text (c ∷ s) = grind (arith, nat_tests)
 
-pub is_none : (s : List ℕ) (d : Bool) → d ≡ all_digits s → (d && ltb 0 (length s)) ≡ false → None ≡ numeral_of s
+some_picked : (t : Bool) (n : ℕ) → then_some t n ≡ pick t (Some n) None
+some_picked true n = refl
+some_picked false n = refl
+
+-- the answer
+pub answer_is : (s : List ℕ) (d e : Bool) (n : ℕ) → d ≡ all_digits s → e ≡ (length s == 0) → n ≡ min (value_after 0 s) number_limit → then_some (d && not e) n ≡ numeral_of s
 unfolding numeral_of
-is_none s d e t = rw (← e, t)
+answer_is s d e n h k f = rw (h, k, f, some_text s) (some_picked (all_digits s && ltb 0 (length s)) (min (value_after 0 s) number_limit))

@@ -10,14 +10,14 @@ pub const NUMBER_LIMIT: u64 = 4294967296;
 fn is_digit(c: u8) -> bool
     ensures { result ≡ is_digit c }
 {
-    (48 <= c) & (c <= 57)
+    matches!(c, b'0'..=b'9')
 }
 
 // What a character stands for; one below `0` counts as 0, since any text is gone through.
 fn digit_of(c: u8) -> u64
     ensures { (result ≡ c - 48) × (result ≤ 207) }
 {
-    if c < 48 { 0 } else { c as u64 - 48 }
+    u64::from(c.saturating_sub(b'0'))
 }
 
 // A number with one digit more.
@@ -25,12 +25,7 @@ fn longer(n: u64, c: u8) -> u64
     requires { n ≤ number_limit }
     ensures { result ≡ min (n * 10 + (c - 48)) number_limit }
 {
-    let more = n * 10 + digit_of(c);
-    if more < NUMBER_LIMIT {
-        more
-    } else {
-        NUMBER_LIMIT
-    }
+    NUMBER_LIMIT.min(n * 10 + digit_of(c))
 }
 
 // The number that a text of one or more digits is.
@@ -39,15 +34,9 @@ pub fn read(text: &[u8]) -> Option<u64>
 {
     let mut digits = true;
     let mut n: u64 = 0;
-    let mut i: usize = 0;
-    while i < text.len() {
-        let c = text[i];
-        digits = digits & is_digit(c);
-        n = longer(n, c);
-        i += 1;
+    for c in text {
+        digits = digits & is_digit(*c);
+        n = longer(n, *c);
     }
-    if digits & (0 < text.len()) {
-        return Some(n);
-    }
-    None
+    (digits & !text.is_empty()).then_some(n)
 }
