@@ -1,15 +1,15 @@
 -- Laws of the tally: counting rows one by one and all at once, and how far the counts can have risen.
-use mathlib.Core.Path.{◌≡◌, ap, sym, fun_ext, ◌∙◌}
-use mathlib.Core.Bool.{Bool, true, ◌&&◌, and-true, and_assoc, and-eq-true_iff}
+use mathlib.Core.Path.{◌≡◌, refl, ap, sym, fun_ext}
+use mathlib.Core.Bool.{Bool, true, false, and-false, and-eq-true_iff}
+use Rattle.std.specs.Bool.{MatchBool}
+use Rattle.std.specs.List.{AllWithin, HoldsAt}
 use mathlib.Core.List.{List, [], ◌∷◌, ◌++◌}
-use Prim.Native.Nat.{ℕ, ◌+◌, ◌≤◌, ◌<◌}
+use Prim.Native.Nat.{ℕ, zero, suc, ◌+◌, ◌≤◌, ◌<◌}
 use native.Mathlib.Nat.{add-zero}
-use native.Mathlib.Numerals.{add-one}
 use native.Mathlib.Omega.{arith}
-use lib.ListN.{length, take, get_or}
-use lib.Seq.{take-suc}
+use lib.ListN.{length, get_or}
 use lib.Dec.{leb}
-use borrow.Author.Tests.{leb-true}
+use borrow.Author.Tests.{leb-true, le-leb, lt-leb}
 use Rattle.search.specs.Search.{one_if}
 use Rattle.search.proofs.Count.{one_few}
 use Rattle.tally.specs.Rows.{is_hit, is_miss, is_eviction, is_batch, is_refused}
@@ -36,13 +36,19 @@ counted_snoc t ws w = ap tally_of (fun_ext (λ i. raises_snoc i ws w (get_or (nu
 
 -- ---- bounds
 
--- the test of one number more
-pub none_above_more : (m : ℕ) (l : List ℕ) (i : ℕ) → i < length l → none_above m (take (i + 1) l) ≡ none_above m (take i l) && leb (get_or l i 0) m
-none_above_more m l i h = ap (λ (j : ℕ). none_above m (take j l)) (add-one i) ∙ ap (none_above m) (take-suc l i 0 h) ∙ snoc (take i l)
-  where
-    snoc : (k : List ℕ) → none_above m (k ++ (get_or l i 0 ∷ [])) ≡ none_above m k && leb (get_or l i 0) m
-    snoc [] = and-true (leb (get_or l i 0) m)
-    snoc (n ∷ k) = ap (λ (b : Bool). leb n m && b) (snoc k) ∙ sym (and_assoc (leb n m) (none_above m k) (leb (get_or l i 0) m))
+-- no number of a list is above m, or one is
+all_below : (m : ℕ) (l : List ℕ) → ((k : ℕ) → k < length l → get_or l k 0 ≤ m) → none_above m l ≡ true
+all_below m [] h = refl
+all_below m (n ∷ l) h = rw (le-leb n m (h 0 (omega arith))) (all_below m l (λ k lt. h (suc k) (omega arith)))
+
+one_above : (m : ℕ) (l : List ℕ) (k : ℕ) → k < length l → m < get_or l k 0 → none_above m l ≡ false
+one_above m [] k lt h = absurd (omega arith)
+one_above m (n ∷ l) zero lt h = rw (lt-leb n m h)
+one_above m (n ∷ l) (suc k) lt h = rw (one_above m l k (omega arith) h) (and-false (leb n m))
+
+pub none_above_is : (m : ℕ) (l : List ℕ) (r : Bool) → MatchBool r (AllWithin (λ n. n ≤ m) l 0 (length l)) ((k : ℕ) × (k < length l) × HoldsAt (λ n. m < n) l k) → r ≡ none_above m l
+none_above_is m l true h = sym (all_below m l (λ k lt. h k 0 (omega arith) lt))
+none_above_is m l false h = sym (one_above m l h.0 h.1 (h.2 0))
 
 -- what the test of a list tells
 at_most : (m : ℕ) (l : List ℕ) → none_above m l ≡ true → AtMost m l

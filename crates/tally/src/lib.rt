@@ -7,7 +7,7 @@ ghost use Rattle.tally.specs.Rows.{row_numbers, refused_row};
 ghost use Rattle.tally.specs.Tally.{numbers_of, counted_by, tally_within, zero_tally};
 ghost use Rattle.tally.specs.ForCode.{Countable};
 
-#[derive(Clone, Copy)]
+#[derive(Clone, Copy, Debug, PartialEq, Eq)]
 pub struct Row {
     pub outcome: u32,
     pub frame: u32,
@@ -15,7 +15,7 @@ pub struct Row {
     pub batch: u32,
 }
 
-#[derive(Clone, Copy)]
+#[derive(Clone, Copy, Debug, PartialEq, Eq)]
 pub struct Tally {
     pub hits: u32,
     pub misses: u32,
@@ -76,14 +76,7 @@ pub fn numbers(t: Tally) -> [u32; COUNTS]
 pub fn within(t: Tally) -> bool
     ensures { result ≡ tally_within t }
 {
-    let l = numbers(t);
-    let mut ok = true;
-    let mut i: usize = 0;
-    while i < COUNTS {
-        ok = ok & (l[i] <= TALLY_LIMIT);
-        i += 1;
-    }
-    ok
+    numbers(t).iter().all(|n| *n <= TALLY_LIMIT)
 }
 
 // The tally after one more row: pins count as hits or misses, unpins as neither.
