@@ -7,7 +7,7 @@ ghost use Rattle.settings.specs.Settings.{between, the_fields, in_range, same_se
 
 use word::{Order, Word};
 
-#[derive(Clone, Copy)]
+#[derive(Clone, Copy, Debug, PartialEq, Eq)]
 pub struct Settings {
     pub rule: u16,
     pub frames: u16,
@@ -25,7 +25,7 @@ pub const SPAN_LIMIT: u32 = 50000;
 fn within(least: u32, x: u32, most: u32) -> bool
     ensures { result ≡ between least most x }
 {
-    (least <= x) & (x <= most)
+    (least..=most).contains(&x)
 }
 
 // Whether each setting is in its range, used by the rule or not.
@@ -44,12 +44,7 @@ pub fn in_range(s: Settings) -> bool
 pub fn same(a: Settings, b: Settings) -> bool
     ensures { result ≡ same_settings a b }
 {
-    (a.rule == b.rule)
-        & ((a.frames == b.frames)
-            & ((a.batch == b.batch)
-                & ((a.cap == b.cap)
-                    & ((a.sample == b.sample)
-                        & ((a.weight == b.weight) & ((a.span == b.span) & (a.seed == b.seed)))))))
+    a == b
 }
 
 // The settings of the least pool: LRU and one frame.

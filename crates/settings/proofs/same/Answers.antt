@@ -4,4 +4,4 @@ use Rattle.settings.proofs.same.Goals as goal
 
 pub returns : goal.returns
 unfolding same_settings
-returns c = rw and-true
+returns c = rw and-true c.eq.ensures
