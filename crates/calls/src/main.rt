@@ -127,7 +127,10 @@ fn try_step(text: &mut Text<'_, impl Print>, pool: Pool, case: &Case) -> Result<
     let stepped = replay::step(&mut pool, &mut tally, case.page, case.kind, list);
     let answer = refusal::answer_of(stepped.map(|_| ()));
     writeln!(text, "step {answer}")?;
-    dump::put_row(text, stepped.unwrap_or_else(|r| tally::refused_row(u32::from(r))))?;
+    dump::put_row(
+        text,
+        stepped.unwrap_or_else(|r| tally::refused_row(u32::from(r))),
+    )?;
     writeln!(text, "list{}", Spaced(list))?;
     dump::put_pool(text, &pool)?;
     dump::put_tally(text, tally)

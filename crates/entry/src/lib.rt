@@ -38,14 +38,6 @@ pub fn fits(bytes: &[u8], at: usize, order: Order) -> bool
     (dirty <= 1) & ((pins <= 255) & ((count <= 255) & ((accesses <= 255) & (writes <= 255))))
 }
 
-// A number that is known to fit a byte.
-fn narrow(n: u16) -> u8
-    requires { n < 256 }
-    ensures { result ≡ n }
-{
-    n as u8
-}
-
 // The frame of the entry at `at`, whose numbers fit.
 pub fn frame(bytes: &[u8], at: usize, order: Order) -> Frame
     requires { (at + entry_length ≤ length bytes.now) × (entry_fits order bytes.now at ≡ true) }
@@ -55,11 +47,11 @@ pub fn frame(bytes: &[u8], at: usize, order: Order) -> Frame
         used: true,
         page: u32::get(bytes, at, order),
         dirty: u16::get(bytes, at + 12, order) == 1,
-        pins: narrow(u16::get(bytes, at + 8, order)),
-        count: narrow(u16::get(bytes, at + 10, order)),
+        pins: u16::get(bytes, at + 8, order) as u8,
+        count: u16::get(bytes, at + 10, order) as u8,
         last: u32::get(bytes, at + 4, order),
-        accesses: narrow(u16::get(bytes, at + 14, order)),
-        writes: narrow(u16::get(bytes, at + 16, order)),
+        accesses: u16::get(bytes, at + 14, order) as u8,
+        writes: u16::get(bytes, at + 16, order) as u8,
     }
 }
 
@@ -68,10 +60,8 @@ pub fn read_log(bytes: &[u8], at: usize, order: Order, log: &mut [u32], to: usiz
     requires { (at + 4 * n ≤ length bytes.now) × (to + n ≤ length log.old) }
     ensures { log.new ≡ sets log.old to (words_at order bytes.now at n) }
 {
-    let mut j: usize = 0;
-    while j < n {
+    for j in 0..n {
         log[to + j] = u32::get(bytes, at + 4 * j, order);
-        j += 1;
     }
 }
 
@@ -111,9 +101,7 @@ pub fn put_log(out: &mut [u8], at: usize, order: Order, log: &[u32], start: usiz
     requires { (at + 4 * n ≤ length out.old) × (start + n ≤ length log.now) }
     ensures { out.new ≡ sets out.old at (word_bytes order (take n (drop start log.now))) }
 {
-    let mut j: usize = 0;
-    while j < n {
+    for j in 0..n {
         u32::put(out, at + 4 * j, order, log[start + j]);
-        j += 1;
     }
 }

@@ -1,7 +1,7 @@
 // The fields of a header and of a record, stored at their places.
 #![tactic(auto)]
 
-ghost use Rattle.std.specs.Prelude.{◌≡◌, ◌+◌, ◌≤◌, [], ◌∷◌, length, get_or};
+ghost use Rattle.std.specs.Prelude.{◌≡◌, ◌+◌, ◌≤◌, length};
 ghost use Rattle.std.proofs.lemmas.List.Edits.{sets};
 ghost use Rattle.trace.specs.Layout.{record_limit, header_length, record_length};
 ghost use Rattle.trace.specs.Encode.{mark_bytes, front_bytes, header_bytes, record_bytes};
@@ -10,24 +10,13 @@ use settings::Settings;
 use trace::{HEADER_LENGTH, RECORD_LENGTH};
 use word::{Order, Word};
 
-// The four bytes of m are stored at the front.
-fn copy4(out: &mut [u8], m: &[u8; 4])
-    requires { 4 ≤ length out.old }
-    ensures { out.new ≡ sets out.old 0 (get_or m.now 0 0 ∷ get_or m.now 1 0 ∷ get_or m.now 2 0 ∷ get_or m.now 3 0 ∷ []) }
-{
-    out[0] = m[0];
-    out[1] = m[1];
-    out[2] = m[2];
-    out[3] = m[3];
-}
-
 pub fn put_mark(out: &mut [u8], order: Order)
     requires { 4 ≤ length out.old }
     ensures { out.new ≡ sets out.old 0 (mark_bytes order) }
 {
     match order {
-        Order::High => copy4(out, b"\x01\x02\x03\x04"),
-        Order::Low => copy4(out, b"\x04\x03\x02\x01"),
+        Order::High => out[..4].copy_from_slice(b"\x01\x02\x03\x04"),
+        Order::Low => out[..4].copy_from_slice(b"\x04\x03\x02\x01"),
     }
 }
 

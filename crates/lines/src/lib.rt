@@ -86,6 +86,7 @@ impl<P: Print> Write for Text<'_, P> {
 }
 
 // Reads until the space is full or the input ends, and answers how many bytes came.
+// By index: std's `read_exact` does not count the bytes of an input that ends early, and its other methods fill a `Vec`.
 pub fn read_full(from: &mut impl Read, space: &mut [u8]) -> Result<usize>
     ensures { IfOk result (λ n. n ≤ length space.new) }
 {

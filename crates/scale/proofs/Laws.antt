@@ -50,33 +50,17 @@ few_misses s t a b = mul-le-mul a b
 pub some_misses : (s t : ℕ) → 1 ≤ s → t ≤ s * t
 some_misses s t a = let h = mul-le-mul_right t a in omega arith
 
-no_less : (n : ℕ) → n < 1 → 1 ≡ max 1 n
-no_less n h = omega arith
+at_least_one : (n : ℕ) → max n 1 ≡ max 1 n
+at_least_one n = omega arith
 
-no_more : (n : ℕ) → 1 ≤ n → n ≡ max 1 n
-no_more n h = omega arith
-
-module _ (most s : ℕ) (is : s ≡ step_of most) where
-  pub one_tick : (most + (s - 1)) / s < 1 → 1 ≡ ticks_of most
-  unfolding ticks_of
-  one_tick h = rw (← is) (no_less _ h)
-
-  pub more_ticks : 1 ≤ (most + (s - 1)) / s → (most + (s - 1)) / s ≡ ticks_of most
-  unfolding ticks_of
-  more_ticks h = rw (← is) (no_more _ h)
+pub ticks_is : (most s : ℕ) → s ≡ step_of most → max ((most + (s - 1)) / s) 1 ≡ ticks_of most
+unfolding ticks_of
+ticks_is most s is = rw (← is) (at_least_one _)
 
 pub top_is : (most t top : ℕ) → t ≡ ticks_of most → top ≡ step_of most * t → top ≡ top_of most
 unfolding top_of
 top_is most t top e f = rw (f, e)
 
-none_left : (n : ℕ) → 940 ≤ n → 0 ≡ 940 - n
-none_left n h = omega arith
-
-module _ (most misses top : ℕ) (is : top ≡ top_of most) where
-  pub y_is : 940 - 760 * misses / top ≡ y_of most misses
-  unfolding y_of
-  y_is = rw is
-
-  pub y_none : 940 ≤ 760 * misses / top → 0 ≡ y_of most misses
-  unfolding y_of
-  y_none h = rw (← is) (none_left _ h)
+pub y_is : (most misses top : ℕ) → top ≡ top_of most → 940 - 760 * misses / top ≡ y_of most misses
+unfolding y_of
+y_is most misses top is = rw is

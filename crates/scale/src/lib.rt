@@ -33,13 +33,11 @@ fn is_enough(most: u32, step: u64) -> bool
 pub fn step_for(most: u32) -> u64
     ensures { (result ≡ step_of most) × (1 ≤ result) × (result ≤ 500000000) × (most ≤ 10 * result) }
 {
-    let mut i: usize = 0;
-    while i < LAST {
+    for i in 0..LAST {
         let step = step_at(i);
         if is_enough(most, step) {
             return step;
         }
-        i += 1;
     }
     step_at(LAST)
 }
@@ -50,7 +48,7 @@ pub fn ticks_for(most: u32) -> u64
 {
     let step = step_for(most);
     let ticks = (most as u64 + (step - 1)) / step;
-    if ticks < 1 { 1 } else { ticks }
+    ticks.max(1)
 }
 
 // The misses at line t.
@@ -73,7 +71,7 @@ pub fn y_for(most: u32, misses: u64) -> u64
     ensures { (result ≡ y_of most misses) × (result ≤ 940) }
 {
     let up = 760 * misses / top_for(most);
-    if up < 940 { 940 - up } else { 0 }
+    940_u64.saturating_sub(up)
 }
 
 pub fn x_for(frames: u16) -> u64

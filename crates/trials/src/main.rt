@@ -2,7 +2,7 @@
 // with the answer and digests of all lent memory. traces/make writes the bundle, says how it is laid out, and knows the lines.
 #![tactic(auto)]
 
-ghost use Rattle.std.specs.Prelude.{◌+◌, ◌*◌, ◌≤◌, ◌<◌, length};
+ghost use Rattle.std.specs.Prelude.{◌≡◌, ◌+◌, ◌*◌, ◌≤◌, ◌<◌, length};
 
 use lines::{Spaced, read_full};
 use refusal::Refusal;
@@ -103,17 +103,12 @@ fn try_convert(out: &impl Print, body: &[u8], room: usize) -> Result<()> {
     print!(out; " {}", digest(&lent))
 }
 
-// The pages of a write case, numbers of 4 bytes.
-fn take_pages(body: &[u8], pages: &mut [u32]) {
-    for (page, bytes) in pages.iter_mut().zip(body.chunks_exact(4)) {
-        *page = u32::get(bytes, 0, Order::High);
-    }
-}
-
-// And the kinds, numbers of 2 bytes.
-fn take_kinds(body: &[u8], kinds: &mut [u16]) {
-    for (kind, bytes) in kinds.iter_mut().zip(body.chunks_exact(2)) {
-        *kind = u16::get(bytes, 0, Order::High);
+// The numbers of a list, of N bytes each.
+fn take<T: Word, const N: usize>(body: &[u8], numbers: &mut [T])
+    requires { (0 < N) × (T.width ≡ N) }
+{
+    for (number, bytes) in numbers.iter_mut().zip(body.chunks_exact(N)) {
+        *number = T::get(bytes, 0, Order::High);
     }
 }
 
@@ -139,8 +134,8 @@ fn try_lists(out: &impl Print, body: &[u8], p: usize, k: usize, room: usize) -> 
     let mut lent = BYTES_TO_LEND;
     let pages = &mut pages_lent[..p];
     let kinds = &mut kinds_lent[..k];
-    take_pages(&body[32..], pages);
-    take_kinds(&body[32 + 4 * p..], kinds);
+    take::<u32, 4>(&body[32..], pages);
+    take::<u16, 2>(&body[32 + 4 * p..], kinds);
     print!(out;
         "write {}",
         write_lists(body, pages, kinds, &mut lent[..room])

@@ -1,11 +1,12 @@
 -- Bounds: with now within the limit of references, up to 8 entries in a log and a weight of at most 16, every product fits 64 bits.
-use mathlib.Core.Path.{◌≡◌, sym, ap}
+use mathlib.Core.Path.{◌≡◌, sym, ap, ◌∙◌}
 use mathlib.Core.List.{List}
-use Prim.Native.Nat.{ℕ, zero, suc, ◌+◌, ◌*◌, ◌^◌, ◌≤◌, ◌<◌}
+use Prim.Native.Nat.{ℕ, zero, suc, ◌+◌, ◌-◌, ◌*◌, ◌^◌, ◌≤◌, ◌<◌}
 use native.Mathlib.Nat.{mul-le-mul}
 use native.Mathlib.Numerals.{add-one}
 use native.Mathlib.Omega.{arith}
-use lib.ListN.{get_or}
+use lib.ListN.{length, get_or, take, drop, length-drop}
+use lib.Seq.{length-take-le, get_or-take, get_or-drop}
 use lib.Dec.{eqb}
 use Rattle.search.proofs.Every.{pick_ind}
 use Rattle.worth.specs.Value.{fraction, age_of, part_of, less_fraction, greater_of, worth_of, value_of}
@@ -33,6 +34,23 @@ pub worth_turn : (a : List ℕ) (at n epoch age : ℕ) (best part next : Fractio
     → next ≡ greater_of best part → best ≡ worth_of a at n epoch → part ≡ part_of n age
     → age ≡ age_of epoch (get_or a (at + n) 0) → next ≡ worth_of a at (n + 1) epoch
 worth_turn a at n epoch age best part next e b p g = rw (e, b, p, g) (sym (worth_more a at n epoch))
+
+-- the j-th entry of a log that is a part of a list
+pub entry_at : (a : List ℕ) (at len j : ℕ) → at + len ≤ length a → j < length (take (at + len - at) (drop at a))
+    → (j < len) × (get_or (take (at + len - at) (drop at a)) j 0 ≡ get_or a (at + j) 0)
+entry_at a at len j h l =
+    let k : at + len - at ≡ len = omega arith in
+    let few : len ≤ length (drop at a) = simp length-drop (omega arith) in
+    let n = length-take-le len (drop at a) few in
+    let here : j < len = let m = rw k at l in omega arith in
+    (here, rw k (get_or-take len (drop at a) j 0 here ∙ get_or-drop at a j 0))
+
+-- the whole log
+pub log_length : (a : List ℕ) (at len : ℕ) → at + len ≤ length a → length (take (at + len - at) (drop at a)) ≡ len
+log_length a at len h =
+    let k : at + len - at ≡ len = omega arith in
+    let few : len ≤ length (drop at a) = simp length-drop (omega arith) in
+    rw k (length-take-le len (drop at a) few)
 
 -- ---- comparing
 

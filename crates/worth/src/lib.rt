@@ -37,7 +37,7 @@ fn greater(a: Fraction, b: Fraction) -> Fraction
 fn age(epoch: u32, t: u32) -> u32
     ensures { result ≡ age_of epoch t }
 {
-    if t < epoch { epoch - t } else { 1 }
+    epoch.saturating_sub(t).max(1)
 }
 
 // The part of an entry that has j newer ones before it.
@@ -45,7 +45,7 @@ fn part(j: usize, age: u32) -> Fraction
     requires { j < worth_num }
     ensures { result ≡ part_of j age }
 {
-    let d = age as u64;
+    let d = u64::from(age);
     if j == 0 {
         return Fraction {
             num: 1,
@@ -64,11 +64,9 @@ pub fn log_worth(a: &[u32], at: usize, len: usize, epoch: u32) -> Fraction
     ensures { result ≡ worth_of a.now at len epoch }
 {
     let mut best = Fraction { num: 0, den: 1 };
-    let mut j: usize = 0;
-    while j < len {
-        let next = part(j, age(epoch, a[at + j]));
+    for (j, t) in a[at..at + len].iter().enumerate() {
+        let next = part(j, age(epoch, *t));
         best = greater(best, next);
-        j += 1;
     }
     best
 }

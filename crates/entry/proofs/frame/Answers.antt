@@ -1,31 +1,28 @@
+use borrow.Author.Rules.{rules}
 use Rattle.entry.specs.Entry.{frame_in}
 use Rattle.entry.proofs.Laws.{fitting}
 use Rattle.entry.proofs.frame.Goals as goal
 
-pub narrow-requires : goal.narrow-requires
-narrow-requires c = rw c.get-3.ensures (fitting c.args.order c.args.bytes.now c.args.at c.requires.1).pins
+pub overflow_cast-result : goal.overflow_cast-result
+overflow_cast-result c = let e = c.get-3.ensures in let h = (fitting c.args.order c.args.bytes.now c.args.at c.requires.1).pins in search rules
 
-pub narrow-requires-2 : goal.narrow-requires-2
-narrow-requires-2 c = rw c.get-4.ensures (fitting c.args.order c.args.bytes.now c.args.at c.requires.1).count
+pub overflow_cast-result-2 : goal.overflow_cast-result-2
+overflow_cast-result-2 c = let e = c.get-4.ensures in let h = (fitting c.args.order c.args.bytes.now c.args.at c.requires.1).count in search rules
 
-pub narrow-requires-3 : goal.narrow-requires-3
-narrow-requires-3 c = rw c.get-6.ensures (fitting c.args.order c.args.bytes.now c.args.at c.requires.1).accesses
+pub overflow_cast-result-3 : goal.overflow_cast-result-3
+overflow_cast-result-3 c = let e = c.get-6.ensures in let h = (fitting c.args.order c.args.bytes.now c.args.at c.requires.1).accesses in search rules
 
-pub narrow-requires-4 : goal.narrow-requires-4
-narrow-requires-4 c = rw c.get-7.ensures (fitting c.args.order c.args.bytes.now c.args.at c.requires.1).writes
+pub overflow_cast-result-4 : goal.overflow_cast-result-4
+overflow_cast-result-4 c = let e = c.get-7.ensures in let h = (fitting c.args.order c.args.bytes.now c.args.at c.requires.1).writes in search rules
 
 pub returns : goal.returns
 unfolding frame_in
 returns c =
     rw (
-      c.narrow-4.ensures,
       c.get-7.ensures,
-      c.narrow-3.ensures,
       c.get-6.ensures,
       c.get-5.ensures,
-      c.narrow-2.ensures,
       c.get-4.ensures,
-      c.narrow.ensures,
       c.get-3.ensures,
       c.get-2.ensures,
       c.get.ensures,

@@ -13,7 +13,6 @@ loop-j-preserved c =
     let j = c.loop-j.j in
     let long : j < length rest = simp length-drop (omega arith) in (
       omega arith,
-      omega arith,
       words_more c.args.order rest c.args.out.now c.loop-j.out c.put.new.out c.args.at j _ long
-          (length-take-le j rest (omega arith)) c.loop-j.invariant.2 (sym (get_or-drop c.args.start log j 0)) c.put.ensures,
+          (length-take-le j rest (omega arith)) c.loop-j.invariant.1 (sym (get_or-drop c.args.start log j 0)) c.put.ensures,
     )
