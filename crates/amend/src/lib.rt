@@ -13,7 +13,7 @@ ghost use Rattle.amend.specs.Quote.{nearer_of, next_size, quote_tally, quote_lin
 
 use settings::Settings;
 use tally::Tally;
-use trace::{RECORD_LIMIT, Summary};
+use trace::{RECORD_LIMIT, Summary, Trace};
 use wish::Wish;
 use word::Order;
 
@@ -50,7 +50,7 @@ fn write_first(
     ensures written_to { WrittenTo (trace_from settings order (take n pages.now) (take n kinds.now)) out.old result out.new }
     ensures reads_back { ReadsBack (trace_from settings order (take n pages.now) (take n kinds.now)) result out.new }
 {
-    scribe::write(settings, order, &pages[..n], &kinds[..n], out)
+    refusal::answer_of(scribe::write(settings, order, &pages[..n], &kinds[..n], out))
 }
 
 // The records of an accepted trace with other settings, from the lists that they were read into.
@@ -144,7 +144,7 @@ fn counts_accepted(bytes: &[u8], summary: Summary) -> Counted
     ensures { result ≡ sheet_of bytes.now }
 {
     let settings = summary.settings;
-    let tally = fresh::counts(bytes, summary);
+    let tally = fresh::counts(&Trace { bytes, summary });
     Counted {
         refusal: 0,
         settings: settings,

@@ -10,6 +10,7 @@ use lib.Seq.{take_all, take-suc, drop-cons, append_snoc, length-take-le, set_at,
 use lib.Dec.{eqb}
 use borrow.Author.Tests.{ne_eqb, eqb-true, eqb-false}
 use Rattle.std.specs.Prelude.{Option, Some, None}
+use Rattle.std.specs.List.{copy_within}
 use Rattle.search.specs.ForCode.{past}
 use Rattle.distance.specs.Recent.{touched}
 use Rattle.distance.specs.ForCode.{place_in}
@@ -26,36 +27,10 @@ one_stands room depth page s i j l m a b =
     once_apart (take depth room) s.once i j (rw (length-take-le depth room (omega arith)) l) m
     (get_or-take depth room j 0 (omega arith) ∙ eqb-true (get_or room j 0) page b ∙ sym (eqb-true (get_or room i 0) page a) ∙ sym (get_or-take depth room i 0 l))
 
--- the room where those from place i to place d have gone down
-abbrev pub shifted : List ℕ → ℕ → ℕ → List ℕ
-shifted l d i = take (suc i) l ++ (drop i (take d l) ++ drop (suc d) l)
-
-pub shift_none : (l : List ℕ) (d : ℕ) → d < length l → l ≡ shifted l d d
-shift_none l d h =
-    let few = length-take-le d l (omega arith) in
-    sym (ap (λ (r : List ℕ). take (suc d) l ++ (r ++ drop (suc d) l)) (drop_of_length-le (take d l) {i = d} (omega arith)) ∙ take-append-drop (suc d) l)
-
-pub shift_more : (l r : List ℕ) (d i : ℕ) → d < length l → 0 < i → i ≤ d → r ≡ shifted l d i → set r i (get_or r (i - 1) 0) ≡ shifted l d (i - 1)
-shift_more l r d zero h p m e = absurd (omega arith)
-shift_more l r d (suc k) h p m e =
-    let rest = drop (suc k) (take d l) ++ drop (suc d) l in
-    let few = length-take-le (suc k) l (omega arith) in
-    let split : r ≡ take (suc k) l ++ (get_or l (suc k) 0 ∷ rest) =
-    e ∙ ap (λ (q : List ℕ). q ++ rest) (take-suc l (suc k) 0 (omega arith)) ∙ append_snoc (take (suc k) l) (get_or l (suc k) 0) rest in
-    let moves : get_or r k 0 ≡ get_or l k 0 =
-    ap (λ (q : List ℕ). get_or q k 0) split ∙ get_or-append (take (suc k) l) (get_or l (suc k) 0 ∷ rest) 0 k (omega arith) ∙ get_or-take (suc k) l k 0 (omega arith) in
-    let cut : drop k (take d l) ≡ get_or l k 0 ∷ drop (suc k) (take d l) =
-    drop-cons (take d l) k 0 (rw (length-take-le d l (omega arith)) (omega arith)) ∙ ap (λ (x : ℕ). x ∷ drop (suc k) (take d l)) (get_or-take d l k 0 (omega arith)) in
-    let before : suc k - 1 ≡ k = omega arith in
-    rw before
-    (ap (λ (q : List ℕ). set q (suc k) (get_or r k 0)) split
-    ∙ set_at (take (suc k) l) (get_or l (suc k) 0) rest (get_or r k 0) (suc k) few
-    ∙ ap (λ (x : ℕ). take (suc k) l ++ (x ∷ rest)) moves
-    ∙ sym (ap (λ (q : List ℕ). take (suc k) l ++ (q ++ drop (suc d) l)) cut))
-
-pub shift_all : (l r : List ℕ) (d i page : ℕ) → d < length l → i ≡ 0 → r ≡ shifted l d i → set r 0 page ≡ moved_up l d page
-shift_all [] r d i page h z e = absurd (omega arith)
-shift_all (y ∷ ys) r d i page h z e = ap (λ (q : List ℕ). set q 0 page) (e ∙ ap (shifted (y ∷ ys) d) z)
+-- the first d go one place further down, and a page stands in front of them
+pub copied_down : (l : List ℕ) (d page : ℕ) → d < length l → set (copy_within l 0 d 1) 0 page ≡ moved_up l d page
+copied_down [] d page h = absurd (omega arith)
+copied_down (y ∷ ys) d page h = let whole : d - 0 ≡ d = omega arith in let next : 1 + d ≡ suc d = omega arith in rw (whole, next)
 
 -- the d first of the room in front of what stands behind place d, cut
 front_of : (a : List ℕ) (d m : ℕ) → d ≤ m → suc m ≤ length a → take m (take d a ++ drop (suc d) a) ≡ take d (take (suc m) a) ++ drop (suc d) (take (suc m) a)

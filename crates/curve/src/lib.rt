@@ -5,14 +5,14 @@
 ghost use Rattle.std.specs.Prelude.{◌≡◌, ◌≤◌, ◌<◌, length, take};
 ghost use Rattle.std.proofs.lemmas.List.Edits.{sets};
 ghost use Rattle.search.specs.ForCode.{past};
-ghost use Rattle.trace.specs.Check.{check_of, trace_of};
-ghost use Rattle.trace.specs.Check.Checked.{Accepted};
+ghost use Rattle.refusal.specs.Numbers.{answer_of};
+ghost use Rattle.trace.specs.Check.{trace_of};
 ghost use Rattle.distance.specs.ForCode.{place_in};
 ghost use Rattle.curve.specs.Curve.{sizes, no_pins, CurveInto};
 ghost use Rattle.curve.specs.ForCode.{Stands, moved_up, left_by, deepened, Used, Times, leavings, Sparing};
 
-use refusal::demanded;
-use trace::Summary;
+use refusal::{Refusal, demand};
+use trace::Trace;
 
 // The pool sizes: 1 to 128 frames. As many pages stand on the stack.
 pub const SIZES: usize = 128;
@@ -33,10 +33,8 @@ fn place_of(room: &[u32; SIZES], depth: usize, page: u32) -> u32
     ensures upper_bound { result ≤ sizes }
 {
     let mut sum: u32 = 0;
-    let mut i: usize = 0;
-    while i < depth {
-        sum = sum + search::one_past(room[i] == page, i as u32);
-        i += 1;
+    for i in 0..depth {
+        sum += search::one_past(room[i] == page, i as u32);
     }
     sum
 }
@@ -46,11 +44,7 @@ fn move_up(room: &mut [u32; SIZES], d: usize, page: u32)
     requires { (d < sizes) × (length room.old ≡ sizes) }
     ensures { room.new ≡ moved_up room.old d page }
 {
-    let mut i: usize = d;
-    while 0 < i {
-        room[i] = room[i - 1];
-        i = i - 1;
-    }
+    room.copy_within(..d, 1);
     room[0] = page;
 }
 
@@ -58,24 +52,20 @@ fn left_by(found: usize, depth: usize) -> usize
     ensures { result ≡ left_by found depth }
 {
     if found == 0 {
-        if depth < SIZES {
-            return depth;
-        }
-        return SIZES - 1;
+        depth.min(SIZES - 1)
+    } else {
+        found - 1
     }
-    found - 1
 }
 
 fn deepened_by(found: usize, depth: usize) -> usize
     ensures { result ≡ deepened found depth }
 {
     if found == 0 {
-        if depth < SIZES {
-            return depth + 1;
-        }
-        return SIZES;
+        depth.min(SIZES - 1) + 1
+    } else {
+        depth
     }
-    depth
 }
 
 // A page is used: one past its place, and it stands in front.
@@ -88,30 +78,23 @@ fn use_page(room: &mut [u32; SIZES], depth: usize, page: u32) -> usize
     found
 }
 
-// One pass over the records of an accepted trace.
-fn pass(bytes: &[u8], summary: Summary) -> Passed
-    requires { check_of bytes.now ≡ Accepted summary }
-    ensures plain_value { result.plain ≡ no_pins (trace_of bytes.now).kinds }
-    ensures times { Times (trace_of bytes.now).pages result.times summary.count }
+// One pass over the records of a trace.
+fn pass(trace: &Trace) -> Passed
+    ensures plain_value { result.plain ≡ no_pins (trace_of trace.now.bytes.now).kinds }
+    ensures times { Times (trace_of trace.now.bytes.now).pages result.times trace.now.summary.count }
 {
-    let n = summary.count as usize;
     let mut room = [0u32; SIZES];
     let mut times = [0u32; SIZES + 1];
     let mut depth: usize = 0;
     let mut plain = true;
-    let mut i: usize = 0;
-    while i < n {
-        let record = trace::record_at(bytes, summary, i);
-        plain = plain & (record.kind <= 1);
+    for i in 0..trace.summary.count as usize {
+        let record = trace.record_at(i);
+        plain &= record.kind <= 1;
         let found = use_page(&mut room, depth, record.page);
         depth = deepened_by(found, depth);
-        times[found] = times[found] + 1;
-        i += 1;
+        times[found] += 1;
     }
-    Passed {
-        plain: plain,
-        times: times,
-    }
+    Passed { plain, times }
 }
 
 // The misses of n uses with 1, 2, .. 128 frames: each frame more spares those at one place more.
@@ -120,38 +103,28 @@ fn put_curve(list: &mut [u32], times: &[u32; SIZES + 1], n: u32)
     ensures { list.new ≡ sets list.old 0 (leavings times.now n sizes) }
 {
     let mut left = n;
-    let mut f: usize = 0;
-    while f < SIZES {
-        left = left - times[f + 1];
+    for f in 0..SIZES {
+        left -= times[f + 1];
         list[f] = left;
-        f += 1;
     }
 }
 
-// The curve of an accepted trace at the front of the list: 0, or 17, or 13, with nothing stored.
-pub fn accepted_misses(bytes: &[u8], summary: Summary, list: &mut [u32]) -> u32
-    requires { check_of bytes.now ≡ Accepted summary }
-    ensures { CurveInto bytes.now list.old result list.new }
+// The curve of a trace at the front of the list; refused by 17, or 13, with nothing stored.
+pub fn accepted_misses(trace: &Trace, list: &mut [u32]) -> Result<(), Refusal>
+    ensures { CurveInto trace.now.bytes.now list.old (answer_of result) list.new }
 {
-    let passed = pass(bytes, summary);
-    let times = passed.times;
-    let roomy = demanded(SIZES <= list.len(), refusal::NO_ROOM, 0);
-    let refusal = demanded(passed.plain, refusal::HAS_PINS, roomy);
-    if refusal != 0 {
-        return refusal;
-    }
-    put_curve(list, &times, summary.count);
-    0
+    let passed = pass(trace);
+    demand(passed.plain, Refusal::HasPins)?;
+    demand(SIZES <= list.len(), Refusal::NoRoom)?;
+    put_curve(list, &passed.times, trace.summary.count);
+    Ok(())
 }
 
-// The misses of LRU from a fresh pool, with i + 1 frames at place i of the list, whatever rule the trace names: 0, or the refusal with nothing
+// The misses of LRU from a fresh pool, with i + 1 frames at place i of the list, whatever rule the trace names; where it is refused, nothing is
 // stored.
-pub fn misses(bytes: &[u8], list: &mut [u32]) -> u32
-    ensures { CurveInto bytes.now list.old result list.new }
+pub fn misses(bytes: &[u8], list: &mut [u32]) -> Result<(), Refusal>
+    ensures { CurveInto bytes.now list.old (answer_of result) list.new }
 {
-    let c = trace::check(bytes);
-    match c {
-        Err(r) => u32::from(r),
-        Ok(summary) => accepted_misses(bytes, summary, list),
-    }
+    let trace = Trace::of(bytes)?;
+    accepted_misses(&trace, list)
 }

@@ -1,7 +1,7 @@
 // LRU's misses at every pool size, as lines or as a picture.
 ghost use Rattle.curve.specs.Curve.{NeverRises};
 
-use crate::work::granted_number;
+use crate::work::granted;
 use files::{Stop, printed};
 use lines::Text;
 use std::io::{self, Write};
@@ -39,7 +39,6 @@ fn show(out: &impl Print, bytes: &[u8], misses: &[u32; curve::SIZES], svg: bool)
 
 pub fn curve(rt: &HostRuntime, bytes: &[u8], svg: bool) -> Result<(), Stop> {
     let mut misses = [0u32; curve::SIZES];
-    let refusal = curve::misses(bytes, &mut misses);
-    granted_number(rt, refusal)?;
+    granted(rt, curve::misses(bytes, &mut misses))?;
     printed(rt, show(rt, bytes, &misses, svg))
 }

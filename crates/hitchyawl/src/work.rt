@@ -1,5 +1,5 @@
 // What each command does, with a trace that is read for it.
-ghost use Rattle.std.specs.Prelude.{◌≡◌, IfOk};
+ghost use Rattle.std.specs.Prelude.{◌≡◌, IfOk, Ok};
 
 use crate::{carry, sizes};
 use amend::Imported;
@@ -30,7 +30,9 @@ pub fn refused(rt: &HostRuntime, said: io::Result<()>) -> Stop {
 }
 
 // What a call has answered that may refuse the trace; a refusal is printed.
-fn granted<T>(rt: &HostRuntime, answer: Result<T, Refusal>) -> Result<T, Stop> {
+pub fn granted<T>(rt: &HostRuntime, answer: Result<T, Refusal>) -> Result<T, Stop>
+    ensures { IfOk result (λ value. answer ≡ Ok value) }
+{
     answer.map_err(|refusal| refused(rt, say_refused(rt, u32::from(refusal))))
 }
 
@@ -60,7 +62,7 @@ fn check(rt: &HostRuntime, bytes: &[u8]) -> Result<(), Stop> {
 
 fn convert(rt: &HostRuntime, bytes: &[u8], output: Option<usize>) -> Result<(), Stop> {
     let mut space = zeros::<TRACE_SPACE>();
-    granted_number(rt, scribe::convert(bytes, &mut space))?;
+    granted(rt, scribe::convert(bytes, &mut space))?;
     files::write(rt, output, front(&space, bytes.len()))
 }
 

@@ -15,7 +15,7 @@ use replay::Ended;
 use settings::Settings;
 use std::io::{Result, Write};
 use tally::Tally;
-use trace::Summary;
+use trace::{Summary, Trace};
 use word::Order;
 
 // Four numbers for each record of the longest trace.
@@ -185,15 +185,15 @@ fn say_listing(
 pub fn inspect(out: &impl Print, bytes: &[u8]) -> Result<u32>
     ensures { IfOk result (λ answer. answer ≡ number_of_answer (check_of bytes.now)) }
 {
-    let c = trace::check(bytes);
+    let c = Trace::of(bytes);
     let answer = match c {
         Err(refusal) => {
             let r = u32::from(refusal);
             say_refused(out, r)?;
             r
         }
-        Ok(summary) => {
-            say_summary(out, summary, trace::writes(bytes, summary))?;
+        Ok(trace) => {
+            say_summary(out, trace.summary, trace.writes())?;
             0
         }
     };

@@ -13,7 +13,7 @@ ghost use Rattle.replay.specs.ForCode.{Ready, RanInto};
 use pool::{Frame, Pool};
 use refusal::Refusal;
 use tally::{Row, Tally};
-use trace::Summary;
+use trace::{Summary, Trace};
 
 // What a replay came to: a refusal or 0, and pool and tally afterwards, for who hands them on together.
 #[derive(Clone, Copy)]
@@ -81,7 +81,7 @@ fn run(
     let mut t = *tally;
     let mut at: usize = 0;
     for i in 0..summary.count as usize {
-        let record = trace::record_at(bytes, summary, i);
+        let record = Trace { bytes, summary }.record_at(i);
         let row = effect::play(&mut bench, record.page, record.kind, list, at);
         tally::put_row(rows, 4 * i, row);
         t = tally::raised(t, row);
@@ -101,7 +101,7 @@ pub fn count(pool: &mut Pool, tally: &mut Tally, bytes: &[u8], summary: Summary)
     let mut bench = table::bench_of(pool);
     let mut t = *tally;
     for i in 0..summary.count as usize {
-        let record = trace::record_at(bytes, summary, i);
+        let record = Trace { bytes, summary }.record_at(i);
         let row = effect::play(&mut bench, record.page, record.kind, &mut scratch, 0);
         t = tally::raised(t, row);
     }
@@ -138,7 +138,7 @@ fn has_room(p: &Pool, bytes: &[u8], summary: Summary, rows: usize, places: usize
     ensures { result ≡ room_for p.now (trace_of bytes.now) rows places }
 {
     let n = summary.count as usize;
-    let writes = trace::writes(bytes, summary) as usize;
+    let writes = Trace { bytes, summary }.writes() as usize;
     let dirty = dirty_frames(&p.frames);
     (4 * n <= rows) & (writes + dirty <= places)
 }

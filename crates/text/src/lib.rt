@@ -9,7 +9,7 @@ ghost use Rattle.text.specs.Text.{line_feed, is_passed, record_line, line_of, li
 ghost use Rattle.trace.specs.Check.{check_of, trace_of};
 ghost use Rattle.trace.specs.Check.Checked.{Accepted};
 
-use trace::Summary;
+use trace::{Summary, Trace};
 
 // What a line is: passed over, a record's kind and page, or bad.
 #[derive(Clone, Copy)]
@@ -233,7 +233,7 @@ fn put_lines(bytes: &[u8], summary: Summary, out: &mut [u8]) -> usize
     let n = summary.count as usize;
     let mut at = 0;
     for i in 0..n {
-        let record = trace::record_at(bytes, summary, i);
+        let record = Trace { bytes, summary }.record_at(i);
         at = put_line(out, at, record.kind, record.page);
     }
     at

@@ -4,11 +4,13 @@
 ghost use Rattle.std.specs.Prelude.{◌≡◌, ◌≤◌, ◌<◌, length};
 ghost use Rattle.std.proofs.lemmas.List.Edits.{sets};
 ghost use Rattle.refusal.specs.Numbers.{answer_of};
-ghost use Rattle.trace.specs.Layout.{record_limit, header_length, file_length, mark_of, count_at, kind_at, zero_at, is_write, known_kinds, writes_in, all_zero, up_to, trace_at, record_in};
+ghost use Rattle.trace.specs.Layout.{record_limit, header_length, file_length, mark_of, count_at, kind_at, zero_at, is_write, known_kinds, writes_in, all_zero, up_to, trace_at};
 ghost use Rattle.trace.specs.Check.{layout_refusal, content_refusal, refusal_in, checked, outcome, check_of, Promises, trace_of, ReadInto, WritesAgain};
-ghost use Rattle.trace.specs.Check.Checked.{Accepted};
 ghost use Rattle.trace.specs.Answer.{checked_by};
 
+mod accepted;
+
+pub use accepted::Trace;
 use refusal::{Refusal, demand};
 use settings::Settings;
 use word::{Order, Word};
@@ -164,54 +166,26 @@ pub fn check(bytes: &[u8]) -> Result<Summary, Refusal>
     }
 }
 
-// Record i of an accepted trace.
-pub fn record_at(bytes: &[u8], summary: Summary, i: usize) -> Record
-    requires { (check_of bytes.now ≡ Accepted summary) × (i < summary.count) }
-    ensures { result ≡ record_in (trace_of bytes.now) i }
+// The pages and kinds of a trace, at the front of two lent lists.
+fn read_records(trace: &Trace, pages: &mut [u32], kinds: &mut [u16])
+    requires { (trace.now.summary.count ≤ length pages.old) × (trace.now.summary.count ≤ length kinds.old) }
+    ensures pages_after { pages.new ≡ sets pages.old 0 (trace_of trace.now.bytes.now).pages }
+    ensures kinds_after { kinds.new ≡ sets kinds.old 0 (trace_of trace.now.bytes.now).kinds }
 {
-    let order = summary.order;
-    let at = HEADER_LENGTH + RECORD_LENGTH * i;
-    Record {
-        page: u32::get(bytes, at, order),
-        kind: u16::get(bytes, at + 4, order),
-    }
-}
-
-// How many records of an accepted trace are writes.
-pub fn writes(bytes: &[u8], summary: Summary) -> u32
-    requires { check_of bytes.now ≡ Accepted summary }
-    ensures { result ≡ writes_in (trace_of bytes.now).kinds }
-{
-    let order = summary.order;
-    u32::get(bytes, 16, order)
-}
-
-// The pages and kinds of an accepted trace, at the front of two lent lists.
-fn read_records(bytes: &[u8], summary: Summary, pages: &mut [u32], kinds: &mut [u16])
-    requires { (check_of bytes.now ≡ Accepted summary) × (summary.count ≤ length pages.old) × (summary.count ≤ length kinds.old) }
-    ensures pages_after { pages.new ≡ sets pages.old 0 (trace_of bytes.now).pages }
-    ensures kinds_after { kinds.new ≡ sets kinds.old 0 (trace_of bytes.now).kinds }
-{
-    for i in 0..summary.count as usize {
-        let record = record_at(bytes, summary, i);
+    for i in 0..trace.summary.count as usize {
+        let record = trace.record_at(i);
         pages[i] = record.page;
         kinds[i] = record.kind;
     }
 }
 
-fn read_accepted(
-    bytes: &[u8],
-    summary: Summary,
-    pages: &mut [u32],
-    kinds: &mut [u16],
-) -> Result<Summary, Refusal>
-    requires { check_of bytes.now ≡ Accepted summary }
-    ensures { ReadInto bytes.now pages.old kinds.old (checked_by result) pages.new kinds.new }
+fn read_accepted(trace: &Trace, pages: &mut [u32], kinds: &mut [u16]) -> Result<Summary, Refusal>
+    ensures { ReadInto trace.now.bytes.now pages.old kinds.old (checked_by result) pages.new kinds.new }
 {
-    let n = summary.count as usize;
+    let n = trace.summary.count as usize;
     demand((n <= pages.len()) & (n <= kinds.len()), Refusal::NoRoom)?;
-    read_records(bytes, summary, pages, kinds);
-    Ok(summary)
+    read_records(trace, pages, kinds);
+    Ok(trace.summary)
 }
 
 // The checker's answer, with the records in two lent lists.
@@ -219,6 +193,6 @@ pub fn read(bytes: &[u8], pages: &mut [u32], kinds: &mut [u16]) -> Result<Summar
     ensures read_into { ReadInto bytes.now pages.old kinds.old (checked_by result) pages.new kinds.new }
     ensures writes_again { WritesAgain bytes.now (checked_by result) pages.new kinds.new }
 {
-    let summary = check(bytes)?;
-    read_accepted(bytes, summary, pages, kinds)
+    let trace = Trace::of(bytes)?;
+    read_accepted(&trace, pages, kinds)
 }

@@ -5,7 +5,7 @@
 ghost use Rattle.std.specs.Prelude.{◌≡◌, ◌+◌, ◌*◌, ◌≤◌, ◌<◌, length};
 
 use lines::{Spaced, read_full};
-use refusal::Refusal;
+use refusal::{Refusal, answer_of};
 use settings::Settings;
 use std::io::{Read, Result};
 use trace::Summary;
@@ -98,7 +98,10 @@ fn try_read(out: &impl Print, body: &[u8], pages_room: usize, kinds_room: usize)
 fn try_convert(out: &impl Print, body: &[u8], room: usize) -> Result<()> {
     let mut lent = BYTES_TO_LEND;
     if room <= BYTE_ROOM {
-        print!(out; "convert {}", scribe::convert(body, &mut lent[..room]))?;
+        print!(out;
+            "convert {}",
+            answer_of(scribe::convert(body, &mut lent[..room]))
+        )?;
     }
     print!(out; " {}", digest(&lent))
 }
@@ -122,7 +125,7 @@ fn write_lists(body: &[u8], pages: &[u32], kinds: &[u16], out: &mut [u8]) -> u32
 {
     let settings = settings::read(body, 0, Order::High);
     let order = order_of(u16::get(body, 20, Order::High));
-    scribe::write(settings, order, pages, kinds, out)
+    answer_of(scribe::write(settings, order, pages, kinds, out))
 }
 
 // A write case of p pages and k kinds, all there.

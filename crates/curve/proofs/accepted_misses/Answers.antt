@@ -1,29 +1,33 @@
-use mathlib.Core.Path.{◌≡◌, ap, sym, ◌∙◌}
+use mathlib.Core.Path.{◌∙◌}
+use native.Mathlib.Omega.{arith}
 use lib.ListN.{length}
-use Rattle.refusal.specs.Refusals.{demand, has_pins}
+use borrow.Author.Tests.{leb-true}
+use Rattle.refusal.proofs.Laws.{passed_on}
 use Rattle.curve.proofs.Counting.{sparing}
-use Rattle.curve.proofs.Called.{rest_of, rest_none, rest_is, curve_refused, curve_given}
+use Rattle.curve.proofs.Called.{rest_is, curve_refused, curve_given}
 use Rattle.curve.proofs.accepted_misses.Goals as goal
 
-pub returns-then-refusal-ne0 : goal.returns-then-refusal-ne0
-returns-then-refusal-ne0 c =
-    let s = c.args.bytes.now in
-    let list = c.args.list.now in
-    let found : c.demanded-refusal.result ≡ rest_of c.pass-passed.result.plain 128 (length list) =
-    c.demanded-refusal.ensures ∙ ap (demand c.pass-passed.result.plain has_pins) c.demanded-roomy.ensures in
-    curve_refused s list _ (rest_is s list _ c.requires _ c.pass-passed.ensures.plain_value ∙ sym found) c.if-refusal-ne0.true
+pub returns-in_err-demand : goal.returns-in_err-demand
+returns-in_err-demand c =
+    let t = c.args.trace.now in
+    let pins = c.in_err-demand.ensures.first in
+    let rest = rest_is t.bytes.now c.args.list.now _ t.accepted _ c.pass-passed.ensures.plain_value in
+    rw (passed_on _ _ c.from_residual.ensures, pins.1)
+    (curve_refused _ c.args.list.now _ (rest ∙ rw pins.0) (λ z. omega arith))
+
+pub returns-in_err-demand-2 : goal.returns-in_err-demand-2
+returns-in_err-demand-2 c =
+    let t = c.args.trace.now in
+    let short = c.in_err-demand-2.ensures.first in
+    let rest = rest_is t.bytes.now c.args.list.now _ t.accepted _ c.pass-passed.ensures.plain_value in
+    rw (passed_on _ _ c.from_residual-in_err-demand-2.ensures, short.1)
+    (curve_refused _ c.args.list.now _ (rest ∙ rw (c.in_ok-demand.ensures.first, short.0)) (λ z. omega arith))
 
 pub put_curve-requires : goal.put_curve-requires
-put_curve-requires c =
-    let list = c.args.list.now in
-    let found : c.demanded-refusal.result ≡ rest_of c.pass-passed.result.plain 128 (length list) =
-    c.demanded-refusal.ensures ∙ ap (demand c.pass-passed.result.plain has_pins) c.demanded-roomy.ensures in
-    ((rest_none c.pass-passed.result.plain 128 (length list) (sym found ∙ c.if-refusal-ne0.false)).1, sparing _ _ _ c.pass-passed.ensures.times)
+put_curve-requires c = (leb-true _ _ c.in_ok-demand-2.ensures.first, sparing _ _ _ c.pass-passed.ensures.times)
 
 pub returns : goal.returns
 returns c =
-    let s = c.args.bytes.now in
-    let list = c.args.list.now in
-    let found : c.demanded-refusal.result ≡ rest_of c.pass-passed.result.plain 128 (length list) =
-    c.demanded-refusal.ensures ∙ ap (demand c.pass-passed.result.plain has_pins) c.demanded-roomy.ensures in
-    curve_given s list _ c.requires c.pass-passed.result.plain c.pass-passed.ensures.plain_value _ _ (sym found ∙ c.if-refusal-ne0.false) c.pass-passed.ensures.times c.put_curve.ensures
+    let t = c.args.trace.now in
+    curve_given t.bytes.now c.args.list.now _ t.accepted c.pass-passed.result.plain c.pass-passed.ensures.plain_value _ _
+    (rw (c.in_ok-demand.ensures.first, c.in_ok-demand-2.ensures.first)) c.pass-passed.ensures.times c.put_curve.ensures

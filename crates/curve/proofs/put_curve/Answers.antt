@@ -5,12 +5,12 @@ use Rattle.curve.proofs.Counting.{left_none, left_more, leavings_none, leavings_
 use Rattle.curve.proofs.put_curve.Goals as goal
 
 pub loop-f-init : goal.loop-f-init
-loop-f-init c = (omega arith, refl, left_none _ _, leavings_none _ _ _)
+loop-f-init c = (refl, left_none _ _, leavings_none _ _ _)
 
 pub loop-f-preserved : goal.loop-f-preserved
 loop-f-preserved c =
     let l = c.loop-f in
     let s = c.args in
     let v = l.invariant in
-    let e = left_more s.times.now s.n l.f l.left v.2 in
-    (omega arith, simp length-set v.1, e, leavings_more s.times.now s.list.now l.list s.n l.f _ v.3 e)
+    let e = left_more s.times.now s.n l.f l.left v.1 in
+    (simp length-set v.0, e, leavings_more s.times.now s.list.now l.list s.n l.f _ v.2 e)

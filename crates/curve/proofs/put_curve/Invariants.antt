@@ -1,4 +1,3 @@
-use Prim.Native.Nat.{◌-◌, ◌≤◌}
 use mathlib.Core.Path.{◌≡◌}
 use lib.ListN.{length}
 use lib.Seq.{sets}
@@ -6,7 +5,4 @@ use Rattle.curve.specs.ForCode.{left_after, leavings}
 use Rattle.curve.proofs.put_curve.Given as goal
 
 abbrev pub invariant-loop-f : goal.invariant-loop-f
-invariant-loop-f l = (l.f ≤ 128) × (length l.list ≡ length l.initial.list) × (l.left ≡ left_after l.times l.n l.f) × (l.list ≡ sets l.initial.list 0 (leavings l.times l.n l.f))
-
-abbrev pub decreases-loop-f : goal.decreases-loop-f
-decreases-loop-f l = 128 - l.f
+invariant-loop-f l = (length l.list ≡ length l.initial.list) × (l.left ≡ left_after l.times l.n l.f) × (l.list ≡ sets l.initial.list 0 (leavings l.times l.n l.f))

@@ -1,7 +1,10 @@
-use mathlib.Core.Path.{sym, ◌∙◌}
+use mathlib.Core.Path.{sym}
 use Rattle.curve.proofs.Called.{refusal_first}
 use Rattle.host.proofs.Laws.{curve_refused}
 use Rattle.host.proofs.hitchyawl_curve.Goals as goal
+
+pub returns-in-Ok : goal.returns-in-Ok
+returns-in-Ok c = rw c.answer_of.ensures (rw c.in-Ok.ensures.same at c.curve_accepted.ensures)
 
 pub returns-in-Err : goal.returns-in-Err
 returns-in-Err c =

@@ -13,7 +13,6 @@ loop-i-preserved c =
     let a = c.args in
     let n = a.l.now in
     let below : c.loop-i.i < length n = search rules in (
-      search rules,
-      ap length p.ensures ∙ length-sets c.loop-i.out (4 * c.loop-i.i) (bytes_of a.order 4 (get_or n c.loop-i.i 0)) ∙ c.loop-i.invariant.1,
-      words_more a.order n a.out.now c.loop-i.out _ c.loop-i.i below c.loop-i.invariant.2 p.ensures,
+      ap length p.ensures ∙ length-sets c.loop-i.out (4 * c.loop-i.i) (bytes_of a.order 4 (get_or n c.loop-i.i 0)) ∙ c.loop-i.invariant.0,
+      words_more a.order n a.out.now c.loop-i.out _ c.loop-i.i below c.loop-i.invariant.1 p.ensures,
     )

@@ -13,7 +13,7 @@ pub loop-i-preserved : goal.loop-i-preserved
 loop-i-preserved c =
     let l = c in
     let a = l.args in
-    let t = trace_of a.bytes.now in
+    let t = trace_of a.trace.now.bytes.now in
     let page : ℕ → ℕ = λ j. (record_in t j).page in
     let kind : ℕ → ℕ = λ j. (record_in t j).kind in (
       simp length-set l.loop-i.invariant.0,
@@ -24,16 +24,16 @@ loop-i-preserved c =
 
 pub returns-clause-pages_after : goal.returns-clause-pages_after
 returns-clause-pages_after c =
-    let t = trace_of c.args.bytes.now in
-    let n = counts_are c.args.bytes.now c.args.summary c.requires.0 in
-    let all : c.loop-i.i ≡ c.args.summary.count = omega arith in
+    let t = trace_of c.args.trace.now.bytes.now in
+    let n = counts_are c.args.trace.now.bytes.now _ c.args.trace.now.accepted in
+    let all : c.loop-i.i ≡ c.args.trace.now.summary.count = omega arith in
     let p = up_to_is (λ (j : ℕ). (record_in t j).page) t.pages (λ i lt. refl) in
     c.loop-i.invariant.2 ∙ rw (all, ← n.0, p)
 
 pub returns-clause-kinds_after : goal.returns-clause-kinds_after
 returns-clause-kinds_after c =
-    let t = trace_of c.args.bytes.now in
-    let n = counts_are c.args.bytes.now c.args.summary c.requires.0 in
-    let all : c.loop-i.i ≡ c.args.summary.count = omega arith in
+    let t = trace_of c.args.trace.now.bytes.now in
+    let n = counts_are c.args.trace.now.bytes.now _ c.args.trace.now.accepted in
+    let all : c.loop-i.i ≡ c.args.trace.now.summary.count = omega arith in
     let k = up_to_is (λ (j : ℕ). (record_in t j).kind) t.kinds (λ i lt. refl) in
     c.loop-i.invariant.3 ∙ rw (all, ← n.1, k)

@@ -8,5 +8,5 @@ use Rattle.trace.proofs.read_records.Given as goal
 
 abbrev pub invariant-loop-i : goal.invariant-loop-i
 invariant-loop-i l = (length l.pages ≡ length l.initial.pages) × (length l.kinds ≡ length l.initial.kinds)
-    × (l.pages ≡ sets l.initial.pages 0 (up_to (λ (j : ℕ). (record_in (trace_of l.bytes) j).page) l.i))
-    × (l.kinds ≡ sets l.initial.kinds 0 (up_to (λ (j : ℕ). (record_in (trace_of l.bytes) j).kind) l.i))
+    × (l.pages ≡ sets l.initial.pages 0 (up_to (λ (j : ℕ). (record_in (trace_of l.trace.bytes.now) j).page) l.i))
+    × (l.kinds ≡ sets l.initial.kinds 0 (up_to (λ (j : ℕ). (record_in (trace_of l.trace.bytes.now) j).kind) l.i))
