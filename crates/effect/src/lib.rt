@@ -134,10 +134,7 @@ fn place_of(found: Option<usize>) -> usize
     requires { Framed found }
     ensures { (result ≡ place_of found) × (result < 128) }
 {
-    match found {
-        Some(i) => i,
-        None => 0,
-    }
+    found.unwrap_or(0)
 }
 
 fn miss_of(dirty: bool) -> u32

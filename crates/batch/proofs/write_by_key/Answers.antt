@@ -24,13 +24,13 @@ returns-then-low c =
     let r = c.loop-n in
     let k = c.args.keys.now in
     ends _ _ _ _ _ _ _ _ r.n r.invariant.1 _ (omega arith)
-    (lowest_nothing r.keys (key_rest k c.args.f r.n) (key_rank k) c.args.f c.lowest-low.result c.requires.0 r.invariant.2 (small_ranks k c.args.f r.n c.requires.2) c.lowest-low.ensures c.if-low.true)
+    (lowest_nothing r.keys (key_rest k c.args.f r.n) (key_rank k) c.loop-n.invariant.0 c.args.f c.lowest-low.result c.requires.0 r.invariant.2 (small_ranks k c.args.f r.n c.requires.2) c.lowest-low.ensures c.if-low.true)
 
 pub overflow_add-at : goal.overflow_add-at
 overflow_add-at c =
     let k = c.args.keys.now in
     let g : least_below (key_rest k c.args.f c.loop-n.n) (key_before k) c.args.f ≡ Some (c.lowest-low.result % 128) =
-    lowest_found c.loop-n.keys (key_rest k c.args.f c.loop-n.n) (key_rank k) c.args.f c.lowest-low.result c.requires.0 c.loop-n.invariant.2 (small_ranks k c.args.f c.loop-n.n c.requires.2) c.lowest-low.ensures c.if-low.false in
+    lowest_found c.loop-n.keys (key_rest k c.args.f c.loop-n.n) (key_rank k) c.loop-n.invariant.0 c.args.f c.lowest-low.result c.requires.0 c.loop-n.invariant.2 (small_ranks k c.args.f c.loop-n.n c.requires.2) c.lowest-low.ensures c.if-low.false in
     let h : c.args.at + c.loop-n.n < length c.args.out.now = found_room _ _ _ _ _ c.args.out.now _ _ c.loop-n.n c.loop-n.invariant.1 _ g c.args.most c.loop-n-test.true c.requires.3 in
     omega arith
 
@@ -38,7 +38,7 @@ pub write_one-requires : goal.write_one-requires
 write_one-requires c =
     let k = c.args.keys.now in
     let g : least_below (key_rest k c.args.f c.loop-n.n) (key_before k) c.args.f ≡ Some (c.lowest-low.result % 128) =
-    lowest_found c.loop-n.keys (key_rest k c.args.f c.loop-n.n) (key_rank k) c.args.f c.lowest-low.result c.requires.0 c.loop-n.invariant.2 (small_ranks k c.args.f c.loop-n.n c.requires.2) c.lowest-low.ensures c.if-low.false in
+    lowest_found c.loop-n.keys (key_rest k c.args.f c.loop-n.n) (key_rank k) c.loop-n.invariant.0 c.args.f c.lowest-low.result c.requires.0 c.loop-n.invariant.2 (small_ranks k c.args.f c.loop-n.n c.requires.2) c.lowest-low.ensures c.if-low.false in
     let h : c.args.at + c.loop-n.n < length c.args.out.now = found_room _ _ _ _ _ c.args.out.now _ _ c.loop-n.n c.loop-n.invariant.1 _ g c.args.most c.loop-n-test.true c.requires.3 in
     let l = wrote_length _ _ _ _ _ _ _ c.loop-n.invariant.1 in
     (search rules, omega arith)
@@ -48,7 +48,7 @@ loop-n-preserved c =
     let r = c.loop-n in
     let k = c.args.keys.now in
     let g : least_below (key_rest k c.args.f c.loop-n.n) (key_before k) c.args.f ≡ Some (c.lowest-low.result % 128) =
-    lowest_found c.loop-n.keys (key_rest k c.args.f c.loop-n.n) (key_rank k) c.args.f c.lowest-low.result c.requires.0 c.loop-n.invariant.2 (small_ranks k c.args.f c.loop-n.n c.requires.2) c.lowest-low.ensures c.if-low.false in
+    lowest_found c.loop-n.keys (key_rest k c.args.f c.loop-n.n) (key_rank k) c.loop-n.invariant.0 c.args.f c.lowest-low.result c.requires.0 c.loop-n.invariant.2 (small_ranks k c.args.f c.loop-n.n c.requires.2) c.lowest-low.ensures c.if-low.false in
     let here : c.lowest-low.result % 128 < length r.keys = rw r.invariant.0 (omega arith) in (
       length-set r.keys _ _ ∙ r.invariant.0,
       turn _ _ _ _ _ _ _ _ r.n r.invariant.1 _ g _ _ c.write_one.ensures,
