@@ -107,7 +107,7 @@ pub fn failed(rt: &HostRuntime, name: &[u8], error: &Error) -> Stop {
 }
 
 // What printing ends in.
-pub fn printed(rt: &HostRuntime, said: io::Result<()>) -> Result<(), Stop> {
+pub fn printed<T>(rt: &HostRuntime, said: io::Result<T>) -> Result<T, Stop> {
     said.map_err(|error| failed(rt, b"standard output", &error))
 }
 

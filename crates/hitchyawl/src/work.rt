@@ -46,7 +46,12 @@ pub fn granted_number(rt: &HostRuntime, refusal: u32) -> Result<(), Stop>
     Err(refused(rt, say_refused(rt, refusal)))
 }
 
-// A call that prints has answered a refusal, which it printed, or 0.
+// A call that prints has answered, and has printed a refusal.
+fn answered(rt: &HostRuntime, said: io::Result<Result<(), Refusal>>) -> Result<(), Stop> {
+    printed(rt, said)?.map_err(|_| Stop::Refused)
+}
+
+// The same, with a refusal's number, or 0.
 fn ended(rt: &HostRuntime, said: io::Result<u32>) -> Result<(), Stop> {
     match said {
         Ok(0) => Ok(()),
@@ -167,7 +172,7 @@ pub fn run(rt: &HostRuntime, request: &Request) -> Result<(), Stop> {
     let (input, output, wish) = (request.input, request.output, request.wish);
     match request.command {
         Command::Check => on_trace(rt, input, |bytes| check(rt, bytes)),
-        Command::Inspect => on_trace(rt, input, |bytes| ended(rt, listing::inspect(rt, bytes))),
+        Command::Inspect => on_trace(rt, input, |bytes| answered(rt, listing::inspect(rt, bytes))),
         Command::Convert => on_trace(rt, input, |bytes| convert(rt, bytes, output)),
         Command::Set => on_trace(rt, input, |bytes| set(rt, bytes, request)),
         Command::Export => on_trace(rt, input, |bytes| export(rt, bytes)),

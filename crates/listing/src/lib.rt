@@ -3,6 +3,7 @@
 #![tactic(auto)]
 
 ghost use Rattle.std.specs.Prelude.{◌≡◌, ◌+◌, ◌<◌, ◌≤◌, length, IfOk};
+ghost use Rattle.refusal.specs.Numbers.{answer_of};
 ghost use Rattle.trace.specs.Check.{check_of, number_of_answer};
 ghost use Rattle.pool.specs.Pool.{fresh_of};
 ghost use Rattle.image.specs.Image.{image_of};
@@ -11,9 +12,10 @@ ghost use Rattle.listing.specs.Fresh.{fresh_for};
 
 use lines::{Spaced, Text, say_image_refused, say_refused};
 use pool::{Frame, Pool};
+use refusal::Refusal;
 use replay::Ended;
 use settings::Settings;
-use std::io::{Result, Write};
+use std::io::{self, Write};
 use tally::Tally;
 use trace::{Summary, Trace};
 use word::Order;
@@ -26,11 +28,7 @@ const WRITTEN: usize = trace::RECORD_LIMIT + 128;
 
 // How many records a trace has; a bad one none.
 fn count_of(bytes: &[u8]) -> u32 {
-    let c = trace::check(bytes);
-    match c {
-        Ok(summary) => summary.count,
-        Err(_) => 0,
-    }
+    trace::check(bytes).map_or(0, |summary| summary.count)
 }
 
 fn fresh_by(settings: Settings) -> Pool
@@ -44,15 +42,14 @@ fn fresh_by(settings: Settings) -> Pool
 pub fn fresh_for(bytes: &[u8]) -> Pool
     ensures { result ≡ fresh_for (check_of bytes.now) }
 {
-    let c = trace::check(bytes);
-    match c {
+    match trace::check(bytes) {
         Ok(summary) => fresh_by(summary.settings),
         Err(_) => fresh_by(settings::one_frame()),
     }
 }
 
 // The rows of a replay, each on a line.
-fn put_rows(text: &mut Text<'_, impl Print>, rows: &[u32; ROWS], count: u32) -> Result<()> {
+fn put_rows(text: &mut Text<'_, impl Print>, rows: &[u32; ROWS], count: u32) -> io::Result<()> {
     writeln!(text, "rows {count}")?;
     let (rows, _) = rows.as_chunks::<4>();
     for row in rows.iter().take(count as usize) {
@@ -62,7 +59,11 @@ fn put_rows(text: &mut Text<'_, impl Print>, rows: &[u32; ROWS], count: u32) -> 
 }
 
 // The pages that were written, each on a line.
-fn put_written(text: &mut Text<'_, impl Print>, pages: &[u32; WRITTEN], count: u32) -> Result<()> {
+fn put_written(
+    text: &mut Text<'_, impl Print>,
+    pages: &[u32; WRITTEN],
+    count: u32,
+) -> io::Result<()> {
     writeln!(text, "written {count}")?;
     for page in pages.iter().take(count as usize) {
         writeln!(text, "{page}")?;
@@ -71,7 +72,7 @@ fn put_written(text: &mut Text<'_, impl Print>, pages: &[u32; WRITTEN], count: u
 }
 
 // The first n entries of a log, newest first. A type allows more than there are places.
-fn put_log(text: &mut Text<'_, impl Print>, log: &[u32], n: u8) -> Result<()> {
+fn put_log(text: &mut Text<'_, impl Print>, log: &[u32], n: u8) -> io::Result<()> {
     let entries = &log[..log.len().min(usize::from(n))];
     write!(text, " :{}", Spaced(entries))
 }
@@ -82,7 +83,7 @@ fn put_frame(
     frame: &Frame,
     access: &[u32],
     write: &[u32],
-) -> Result<()> {
+) -> io::Result<()> {
     write!(
         text,
         "{} {} {} {} {}",
@@ -97,7 +98,7 @@ fn put_frame(
     writeln!(text)
 }
 
-fn put_frames(text: &mut Text<'_, impl Print>, p: &Pool) -> Result<()> {
+fn put_frames(text: &mut Text<'_, impl Print>, p: &Pool) -> io::Result<()> {
     let logs = p.access.chunks(8).zip(p.write.chunks(4));
     for (frame, (access, write)) in p.frames.iter().zip(logs) {
         if frame.used {
@@ -107,18 +108,18 @@ fn put_frames(text: &mut Text<'_, impl Print>, p: &Pool) -> Result<()> {
     Ok(())
 }
 
-fn put_pool(text: &mut Text<'_, impl Print>, p: &Pool) -> Result<()> {
+fn put_pool(text: &mut Text<'_, impl Print>, p: &Pool) -> io::Result<()> {
     writeln!(text, "pool {} {} {}", p.k, p.hand, p.sampler)?;
     writeln!(text, "frames {}", image::used_frames(*p))?;
     put_frames(text, p)
 }
 
 // The line of a rule's name.
-fn put_policy(text: &mut Text<'_, impl Print>, rule: u16) -> Result<()> {
+fn put_policy(text: &mut Text<'_, impl Print>, rule: u16) -> io::Result<()> {
     writeln!(text, "policy {}", victim::name_of(rule))
 }
 
-fn put_counts(text: &mut Text<'_, impl Print>, t: Tally) -> Result<()> {
+fn put_counts(text: &mut Text<'_, impl Print>, t: Tally) -> io::Result<()> {
     writeln!(text, "hits {}", t.hits)?;
     writeln!(text, "misses {}", t.misses)?;
     writeln!(text, "evictions {}", t.evictions)?;
@@ -128,7 +129,12 @@ fn put_counts(text: &mut Text<'_, impl Print>, t: Tally) -> Result<()> {
 }
 
 // The sheet of a replay to counts.
-pub fn say_sheet(out: &impl Print, settings: Settings, records: u32, tally: Tally) -> Result<()> {
+pub fn say_sheet(
+    out: &impl Print,
+    settings: Settings,
+    records: u32,
+    tally: Tally,
+) -> io::Result<()> {
     let mut text = Text::new(out);
     put_policy(&mut text, settings.rule)?;
     writeln!(text, "frames {}", settings.frames)?;
@@ -137,7 +143,7 @@ pub fn say_sheet(out: &impl Print, settings: Settings, records: u32, tally: Tall
     text.flush()
 }
 
-fn put_settings(text: &mut Text<'_, impl Print>, s: Settings) -> Result<()> {
+fn put_settings(text: &mut Text<'_, impl Print>, s: Settings) -> io::Result<()> {
     put_policy(text, s.rule)?;
     writeln!(text, "frames {}", s.frames)?;
     writeln!(text, "batch {}", s.batch)?;
@@ -148,7 +154,7 @@ fn put_settings(text: &mut Text<'_, impl Print>, s: Settings) -> Result<()> {
     writeln!(text, "seed {}", s.seed)
 }
 
-fn say_summary(out: &impl Print, summary: Summary, writes: u32) -> Result<()> {
+fn say_summary(out: &impl Print, summary: Summary, writes: u32) -> io::Result<()> {
     let mut text = Text::new(out);
     writeln!(text, "order {}", summary.order)?;
     put_settings(&mut text, summary.settings)?;
@@ -157,7 +163,7 @@ fn say_summary(out: &impl Print, summary: Summary, writes: u32) -> Result<()> {
     text.flush()
 }
 
-fn say_image(out: &impl Print, order: Order, pool: &Pool) -> Result<()> {
+fn say_image(out: &impl Print, order: Order, pool: &Pool) -> io::Result<()> {
     let mut text = Text::new(out);
     writeln!(text, "order {order}")?;
     put_settings(&mut text, pool.settings)?;
@@ -172,7 +178,7 @@ fn say_listing(
     pages: u32,
     written: &[u32; WRITTEN],
     ended: &Ended,
-) -> Result<()> {
+) -> io::Result<()> {
     let mut text = Text::new(out);
     put_rows(&mut text, rows, records)?;
     put_written(&mut text, written, pages)?;
@@ -181,27 +187,24 @@ fn say_listing(
     text.flush()
 }
 
-// Prints what a trace is, or that it is refused, and answers the refusal or 0.
-pub fn inspect(out: &impl Print, bytes: &[u8]) -> Result<u32>
-    ensures { IfOk result (λ answer. answer ≡ number_of_answer (check_of bytes.now)) }
+// Prints what a trace is, or that it is refused, and answers that.
+pub fn inspect(out: &impl Print, bytes: &[u8]) -> io::Result<Result<(), Refusal>>
+    ensures { IfOk result (λ answer. answer_of answer ≡ number_of_answer (check_of bytes.now)) }
 {
-    let c = Trace::of(bytes);
-    let answer = match c {
-        Err(refusal) => {
-            let r = u32::from(refusal);
-            say_refused(out, r)?;
-            r
-        }
+    match Trace::of(bytes) {
         Ok(trace) => {
             say_summary(out, trace.summary, trace.writes())?;
-            0
+            Ok(Ok(()))
         }
-    };
-    Ok(answer)
+        Err(refusal) => {
+            say_refused(out, u32::from(refusal))?;
+            Ok(Err(refusal))
+        }
+    }
 }
 
 // Prints the order of an image and the pool that it holds, or that it is refused, and answers the refusal or 0.
-pub fn inspect_image(out: &impl Print, bytes: &[u8]) -> Result<u32>
+pub fn inspect_image(out: &impl Print, bytes: &[u8]) -> io::Result<u32>
     ensures { IfOk result (λ answer. answer ≡ (image_of bytes.now).refusal) }
 {
     let opened = image::read(bytes);
@@ -246,7 +249,7 @@ fn replayed(
 }
 
 // Replays a trace and prints its sheet, or that it is refused.
-pub fn sheet(out: &impl Print, pool: Pool, tally: Tally, bytes: &[u8]) -> Result<Ended>
+pub fn sheet(out: &impl Print, pool: Pool, tally: Tally, bytes: &[u8]) -> io::Result<Ended>
     ensures { IfOk result (λ ended. ended ≡ counts_of pool tally bytes.now) }
 {
     let ended = counted(pool, tally, bytes);
@@ -261,7 +264,7 @@ pub fn sheet(out: &impl Print, pool: Pool, tally: Tally, bytes: &[u8]) -> Result
 
 // Replays a trace and prints its listing, or that it is refused. The lists hold what any replay needs, so none is refused by 13, and the
 // answer is that of a replay to counts.
-pub fn list(out: &impl Print, pool: Pool, tally: Tally, bytes: &[u8]) -> Result<Ended>
+pub fn list(out: &impl Print, pool: Pool, tally: Tally, bytes: &[u8]) -> io::Result<Ended>
     ensures { IfOk result (λ ended. ended ≡ counts_of pool tally bytes.now) }
 {
     let mut rows = [0u32; ROWS];

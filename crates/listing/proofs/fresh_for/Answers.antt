@@ -1,4 +1,4 @@
-use Rattle.std.proofs.Common.{sym, ◌∙◌}
+use Rattle.std.proofs.Common.{sym}
 use Rattle.listing.proofs.Laws.{fresh_accepted, fresh_refused}
 use Rattle.listing.proofs.fresh_for.Goals as goal
 
