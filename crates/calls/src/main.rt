@@ -107,16 +107,23 @@ fn case_in(head: &[u8; 64]) -> Case {
 }
 
 fn try_read(text: &mut Text<'_, impl Print>, image: &[u8]) -> Result<()> {
-    let opened = image::read(image);
-    writeln!(text, "read {}", opened.refusal)?;
-    dump::put_pool(text, &opened.pool)
+    match image::read(image) {
+        Ok(pool) => {
+            writeln!(text, "read 0")?;
+            dump::put_pool(text, &pool)
+        }
+        Err(refusal) => {
+            writeln!(text, "read {}", u32::from(refusal))?;
+            dump::put_pool(text, &pool::empty(settings::one_frame()))
+        }
+    }
 }
 
 fn try_write(text: &mut Text<'_, impl Print>, pool: Pool, case: &Case) -> Result<()> {
     let mut lent = [7u8; BYTE_ROOM];
     let room = case.places.min(BYTE_ROOM);
-    let refusal = image::write(pool, case.order, &mut lent[..room]);
-    writeln!(text, "write {refusal}")?;
+    let written = image::write(pool, case.order, &mut lent[..room]);
+    writeln!(text, "write {}", answer_of(written))?;
     writeln!(text, "bytes{}", Spaced(&lent[..room]))
 }
 
@@ -176,11 +183,10 @@ fn try_held(
     image: &[u8],
     trace: &[u8],
 ) -> Result<()> {
-    let opened = image::held(image);
-    if opened.refusal != 0 {
-        return writeln!(text, "held {}", opened.refusal);
-    }
-    let pool = opened.pool;
+    let pool = match image::held(image) {
+        Ok(pool) => pool,
+        Err(refusal) => return writeln!(text, "held {}", u32::from(refusal)),
+    };
     match call {
         PoolCall::Write => try_write(text, pool, case),
         PoolCall::Check => writeln!(text, "check {}", answer_of(pool::check(&pool))),

@@ -23,7 +23,7 @@ fn put_image(pool: Pool, order: Order, out: &mut [u8]) -> usize
     requires { (sound_pool pool ≡ true) × (image_length 128 ≤ length out.old) }
     ensures { (out.new ≡ sets out.old 0 (encode_pool order pool)) × (result ≡ image_length (used_in pool)) }
 {
-    image::write(pool, order, out);
+    let _ = image::write(pool, order, out);
     image::HEADER_LENGTH + entry::ENTRY_LENGTH * (image::used_frames(pool) as usize)
 }
 
@@ -77,10 +77,7 @@ fn replay_set(rt: &HostRuntime, request: &Request, pool: Pool, bytes: &[u8]) -> 
 fn read_pool(rt: &HostRuntime, from: Option<usize>) -> Result<Pool, Stop> {
     let mut space = zeros::<INPUT_SPACE>();
     let opened = image::read(files::read_whole(rt, from, &mut space)?);
-    if opened.refusal != 0 {
-        return Err(refused(rt, lines::say_image_refused(rt, opened.refusal)));
-    }
-    Ok(opened.pool)
+    opened.map_err(|refusal| refused(rt, lines::say_image_refused(rt, u32::from(refusal))))
 }
 
 // The pool of the image that is named, if one is.

@@ -15,7 +15,9 @@ use Rattle.word.proofs.Laws.{sets_append, length_bytes}
 use Rattle.search.specs.Search.{every_below}
 use Rattle.search.proofs.Every.{every_at}
 use Rattle.refusal.specs.Refusals.{demand, or_else, bad_field, not_sound, other_edition, wrong_length, too_short, no_room}
-use Rattle.refusal.proofs.Laws.{met, or_first, neither, unstored}
+use Rattle.refusal.specs.declared.Refusal.{Refusal}
+use Rattle.refusal.specs.Numbers.{number_of}
+use Rattle.refusal.proofs.Laws.{met, or_first, neither, unstored, number_some}
 use Rattle.settings.specs.Settings.{one_frame, settings_bytes}
 use Rattle.settings.proofs.Places.{length_settings}
 use Rattle.trace.specs.Layout.{mark_high, mark_low, begins, mark_of}
@@ -244,6 +246,10 @@ image_stored o p out a b x y =
     rw (y, x) (sym (sets_append h e out 0 ∙ ap (λ (n : ℕ). sets (sets out 0 h) (0 + n) e) (length_header o p (used_in p))))
 
 -- ---- the ways through the calls
+
+-- no refusal has the number of none
+pub number_ne : (r : Refusal) → number_of r ≡ 0 → ⊥
+number_ne r h = let some = number_some r in omega arith
 
 pub opened_none : (r : ℕ) (p : Pool) → (r ≡ 0 → ⊥) → opened r (fresh_pool one_frame) ≡ opened_or r p
 opened_none zero p h = absurd (h refl)

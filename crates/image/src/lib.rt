@@ -4,7 +4,8 @@
 ghost use Rattle.std.specs.Prelude.{◌≡◌, true, ◌++◌, ◌+◌, ◌*◌, ◌≤◌, ◌<◌, length, leb};
 ghost use Rattle.std.proofs.lemmas.List.Edits.{sets};
 ghost use Rattle.search.specs.Search.{every_below};
-ghost use Rattle.pool.specs.Pool.{fresh_pool, opened};
+ghost use Rattle.refusal.specs.Numbers.{answer_of};
+ghost use Rattle.pool.specs.Pool.{opened_by};
 ghost use Rattle.settings.specs.Settings.{one_frame, settings_bytes};
 ghost use Rattle.entry.specs.Run.{run_of};
 ghost use Rattle.entry.specs.Entry.{entry_bytes};
@@ -12,8 +13,8 @@ ghost use Rattle.image.specs.Layout.{image_header, image_length, used_at, pool_t
 ghost use Rattle.image.specs.Image.{layout_refusal, header_zeros, entry_zero, entry_held, content_refusal, held_refusal_in, held_refusal, order_of, pool_of, held_of, image_of, saving_refusal, SavedTo};
 
 use entry::ENTRY_LENGTH;
-use pool::{Frame, Opened, Pool};
-use refusal::demanded;
+use pool::{Frame, Pool};
+use refusal::Refusal;
 use word::{Order, Word};
 
 pub const EDITION: u16 = 1;
@@ -31,9 +32,9 @@ struct Survey {
 }
 
 // Refusals 3 and 5.
-fn layout_refusal(bytes: &[u8], order: Order) -> u32
+fn check_layout(bytes: &[u8], order: Order) -> Result<(), Refusal>
     requires { image_header ≤ length bytes.now }
-    ensures { result ≡ layout_refusal order bytes.now }
+    ensures { answer_of result ≡ layout_refusal order bytes.now }
 {
     let edition = u16::get(bytes, 4, order);
     let used = u32::get(bytes, 8, order) as usize;
@@ -43,11 +44,8 @@ fn layout_refusal(bytes: &[u8], order: Order) -> u32
     let size = HEADER_LENGTH + ENTRY_LENGTH * used;
     let lengths = (offset as usize == HEADER_LENGTH)
         & ((entry as usize == ENTRY_LENGTH) & ((long as usize == size) & (bytes.len() == size)));
-    demanded(
-        edition == EDITION,
-        refusal::OTHER_EDITION,
-        demanded(lengths, refusal::WRONG_LENGTH, 0),
-    )
+    refusal::demand(edition == EDITION, Refusal::OtherEdition)?;
+    refusal::demand(lengths, Refusal::WrongLength)
 }
 
 // Whether the zero fields of the header are zero.
@@ -67,58 +65,45 @@ fn survey_of(bytes: &[u8], order: Order, n: usize) -> Survey
 {
     let mut zeros = true;
     let mut fits = true;
-    let mut i: usize = 0;
-    while i < n {
+    for i in 0..n {
         let at = HEADER_LENGTH + ENTRY_LENGTH * i;
         zeros = zeros & entry::zero_right(bytes, at, order);
         fits = fits & entry::fits(bytes, at, order);
-        i += 1;
     }
-    Survey {
-        zeros: zeros,
-        fits: fits,
-    }
+    Survey { zeros, fits }
 }
 
 // Refusals 6 and 14, of an image whose lengths are right.
-fn content_refusal(bytes: &[u8], order: Order) -> u32
+fn check_content(bytes: &[u8], order: Order) -> Result<(), Refusal>
     requires { length bytes.now ≡ image_length (used_at order bytes.now) }
-    ensures { result ≡ content_refusal order bytes.now }
+    ensures { answer_of result ≡ content_refusal order bytes.now }
 {
     let used = u32::get(bytes, 8, order) as usize;
     let zeros = header_zeros(bytes, order);
     let found = survey_of(bytes, order, used);
-    demanded(
-        zeros & found.zeros,
-        refusal::BAD_FIELD,
-        demanded((used <= 128) & found.fits, refusal::NOT_SOUND, 0),
-    )
+    refusal::demand(zeros & found.zeros, Refusal::BadField)?;
+    refusal::demand((used <= 128) & found.fits, Refusal::NotSound)
 }
 
-// Refusals 3 to 14, but for soundness, or 0.
-fn held_refusal_in(bytes: &[u8], order: Order) -> u32
+// Refusals 3 to 14, but for soundness.
+fn check_ordered(bytes: &[u8], order: Order) -> Result<(), Refusal>
     requires { image_header ≤ length bytes.now }
-    ensures { result ≡ held_refusal_in order bytes.now }
+    ensures { answer_of result ≡ held_refusal_in order bytes.now }
 {
-    let r = layout_refusal(bytes, order);
-    if r == 0 {
-        content_refusal(bytes, order)
-    } else {
-        r
-    }
+    check_layout(bytes, order)?;
+    check_content(bytes, order)
 }
 
-// Refusals 1 to 14, but for soundness, or 0.
-fn held_refusal(bytes: &[u8]) -> u32
-    ensures { result ≡ held_refusal bytes.now }
+// Refusals 1 to 14, but for soundness.
+fn check_held(bytes: &[u8]) -> Result<(), Refusal>
+    ensures { answer_of result ≡ held_refusal bytes.now }
 {
     if bytes.len() < HEADER_LENGTH {
-        return refusal::TOO_SHORT;
+        return Err(Refusal::TooShort);
     }
-    let m = trace::mark_of(bytes);
-    match m {
-        Some(order) => held_refusal_in(bytes, order),
-        None => refusal::UNKNOWN_MARK,
+    match trace::mark_of(bytes) {
+        Some(order) => check_ordered(bytes, order),
+        None => Err(Refusal::UnknownMark),
     }
 }
 
@@ -145,8 +130,7 @@ fn pool_to(bytes: &[u8], order: Order, used: usize) -> Pool
     let mut frames = [empty; 128];
     let mut access = [0u32; 1024];
     let mut write = [0u32; 512];
-    let mut i: usize = 0;
-    while i < used {
+    for i in 0..used {
         let at = HEADER_LENGTH + ENTRY_LENGTH * i;
         frames[i] = entry::frame(bytes, at, order);
         entry::read_log(
@@ -158,75 +142,43 @@ fn pool_to(bytes: &[u8], order: Order, used: usize) -> Pool
             8,
         );
         entry::read_log(bytes, at + entry::WRITE_PLACE, order, &mut write, i * 4, 4);
-        i += 1;
     }
     let settings = settings::read(bytes, trace::SETTINGS_PLACE, order);
     Pool {
-        settings: settings,
+        settings,
         k: u32::get(bytes, 48, order),
         hand: u16::get(bytes, 52, order),
         sampler: u32::get(bytes, 56, order),
-        frames: frames,
-        access: access,
-        write: write,
+        frames,
+        access,
+        write,
     }
 }
 
-// A refusal, with the pool of one frame.
-fn refused(r: u32) -> Opened
-    ensures { result ≡ opened r (fresh_pool one_frame) }
+// The pool that an image holds, sound or not.
+pub fn held(bytes: &[u8]) -> Result<Pool, Refusal>
+    ensures { opened_by result ≡ held_of bytes.now }
 {
-    Opened {
-        refusal: r,
-        pool: pool::empty(settings::one_frame()),
-    }
-}
-
-// The pool that an image holds, sound or not, or the refusal with a pool of one frame.
-pub fn held(bytes: &[u8]) -> Opened
-    ensures { result ≡ held_of bytes.now }
-{
-    let r = held_refusal(bytes);
-    if r != 0 {
-        return refused(r);
-    }
+    check_held(bytes)?;
     let order = order_of(bytes);
     let used = u32::get(bytes, 8, order) as usize;
-    let whole = pool_to(bytes, order, used);
-    Opened {
-        refusal: 0,
-        pool: whole,
-    }
+    Ok(pool_to(bytes, order, used))
 }
 
-// The sound pool that an image holds, or the refusal with a pool of one frame.
-pub fn read(bytes: &[u8]) -> Opened
-    ensures { result ≡ image_of bytes.now }
+// The sound pool that an image holds.
+pub fn read(bytes: &[u8]) -> Result<Pool, Refusal>
+    ensures { opened_by result ≡ image_of bytes.now }
 {
-    let found = held(bytes);
-    if found.refusal != 0 {
-        return found;
-    }
-    let whole = found.pool;
-    let unsound = refusal::answer_of(pool::check(&whole));
-    if unsound != 0 {
-        return refused(unsound);
-    }
-    found
+    let whole = held(bytes)?;
+    pool::check(&whole)?;
+    Ok(whole)
 }
 
 // How many frames are in use.
 pub fn used_frames(p: Pool) -> u32
     ensures { (result ≡ used_in p) × (result ≤ 128) }
 {
-    let mut n: u32 = 0;
-    let mut i: usize = 0;
-    while i < 128 {
-        let fr = p.frames[i];
-        n = n + search::one_if(fr.used);
-        i += 1;
-    }
-    n
+    p.frames.iter().filter(|fr| fr.used).count() as u32
 }
 
 // The first 24 bytes of the header.
@@ -277,14 +229,12 @@ fn put_entries(out: &mut [u8], order: Order, p: Pool, n: usize)
     requires { (n ≤ 128) × (image_length n ≤ length out.old) }
     ensures { out.new ≡ sets out.old image_header (run_of (entry_bytes order p) n) }
 {
-    let mut i: usize = 0;
-    while i < n {
+    for i in 0..n {
         let at = HEADER_LENGTH + ENTRY_LENGTH * i;
         let fr = p.frames[i];
         entry::put_fields(out, at, order, fr);
         entry::put_log(out, at + entry::ACCESS_PLACE, order, &p.access, i * 8, 8);
         entry::put_log(out, at + entry::WRITE_PLACE, order, &p.write, i * 4, 4);
-        i += 1;
     }
 }
 
@@ -297,18 +247,15 @@ fn put_image(p: Pool, order: Order, used: u32, out: &mut [u8])
     put_entries(out, order, p, used as usize);
 }
 
-// The image of a sound pool at the front of `out`: 0, or the refusal with nothing stored.
-pub fn write(pool: Pool, order: Order, out: &mut [u8]) -> u32
-    ensures { SavedTo pool order out.old result out.new }
+// The image of a sound pool at the front of `out`; where it is refused nothing is stored.
+pub fn write(pool: Pool, order: Order, out: &mut [u8]) -> Result<(), Refusal>
+    ensures { SavedTo pool order out.old (answer_of result) out.new }
 {
-    let r = refusal::answer_of(pool::check(&pool));
-    if r != 0 {
-        return r;
-    }
+    pool::check(&pool)?;
     let used = used_frames(pool);
     if out.len() < HEADER_LENGTH + ENTRY_LENGTH * (used as usize) {
-        return refusal::NO_ROOM;
+        return Err(Refusal::NoRoom);
     }
     put_image(pool, order, used, out);
-    0
+    Ok(())
 }

@@ -207,13 +207,17 @@ pub fn inspect(out: &impl Print, bytes: &[u8]) -> io::Result<Result<(), Refusal>
 pub fn inspect_image(out: &impl Print, bytes: &[u8]) -> io::Result<u32>
     ensures { IfOk result (λ answer. answer ≡ (image_of bytes.now).refusal) }
 {
-    let opened = image::read(bytes);
-    if opened.refusal != 0 {
-        say_image_refused(out, opened.refusal)?;
-        return Ok(opened.refusal);
+    match image::read(bytes) {
+        Ok(pool) => {
+            say_image(out, image::order_of(bytes), &pool)?;
+            Ok(0)
+        }
+        Err(refusal) => {
+            let number = u32::from(refusal);
+            say_image_refused(out, number)?;
+            Ok(number)
+        }
     }
-    say_image(out, image::order_of(bytes), &opened.pool)?;
-    Ok(opened.refusal)
 }
 
 // What a pool and a tally come to, counted only.

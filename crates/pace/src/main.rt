@@ -4,6 +4,7 @@
 
 ghost use Rattle.std.specs.Prelude.{◌≤◌, length};
 
+use refusal::answer_of;
 use std::io::Result;
 use word::{Order, Word};
 
@@ -17,9 +18,10 @@ fn turn(bytes: &mut [u8], out: &mut [u8], i: u32) -> u32
     requires { 64 ≤ length bytes.old }
 {
     u32::put(bytes, 56, Order::Low, i);
-    let opened = image::read(bytes);
-    let refusal = image::write(opened.pool, Order::Low, out);
-    opened.refusal.wrapping_add(refusal)
+    match image::read(bytes) {
+        Ok(pool) => answer_of(image::write(pool, Order::Low, out)),
+        Err(refusal) => u32::from(refusal),
+    }
 }
 
 fn turns(bytes: &mut [u8], out: &mut [u8]) -> u32

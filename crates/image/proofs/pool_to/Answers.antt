@@ -9,7 +9,7 @@ use Rattle.image.proofs.Laws.{frames_more, access_more, write_more, entry_within
 use Rattle.image.proofs.pool_to.Goals as goal
 
 pub loop-i-init : goal.loop-i-init
-loop-i-init c = (omega arith, refl, search rules, search rules, rw (run_none _), rw (run_none _), rw (run_none _))
+loop-i-init c = (refl, search rules, search rules, rw (run_none _), rw (run_none _), rw (run_none _))
 
 pub frame-requires : goal.frame-requires
 frame-requires c =
@@ -23,13 +23,12 @@ loop-i-preserved c =
     let o = c.args.order in
     let s = c.args.bytes.now in
     let i = c.loop-i.i in (
-      omega arith,
-      length-set c.loop-i.frames _ _ ∙ v.1,
+      length-set c.loop-i.frames _ _ ∙ v.0,
       search rules,
       search rules,
-      frames_more o s i _ c.loop-i.frames _ _ v.4 c.frame.ensures refl,
-      access_more o s i _ c.loop-i.access _ v.5 c.read_log.ensures,
-      write_more o s i _ c.loop-i.write _ v.6 c.read_log-in-loop-i.ensures,
+      frames_more o s i _ c.loop-i.frames _ _ v.3 c.frame.ensures refl,
+      access_more o s i _ c.loop-i.access _ v.4 c.read_log.ensures,
+      write_more o s i _ c.loop-i.write _ v.5 c.read_log-in-loop-i.ensures,
     )
 
 pub returns : goal.returns
@@ -37,4 +36,4 @@ unfolding pool_to fresh_pool
 returns c =
     let v = c.loop-i.invariant in
     let e : c.loop-i.i ≡ c.args.used = omega arith in
-    rw (c.get-3.ensures, c.get-2.ensures, c.get.ensures, c.read-settings.ensures, v.4, v.5, v.6, e, c.empty_frame-empty.ensures)
+    rw (c.get-3.ensures, c.get-2.ensures, c.get.ensures, c.read-settings.ensures, v.3, v.4, v.5, e, c.empty_frame-empty.ensures)

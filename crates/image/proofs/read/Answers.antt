@@ -1,12 +1,16 @@
-use mathlib.Core.Path.{◌∙◌}
-use Rattle.image.proofs.Laws.{read_none, read_unsound, read_sound}
+use mathlib.Core.Path.{refl, ap, ◌∙◌}
+use Rattle.refusal.proofs.Laws.{passed_on}
+use Rattle.pool.specs.Pool.{opened_by}
+use Rattle.image.proofs.Laws.{number_ne, read_none, read_unsound, read_sound}
 use Rattle.image.proofs.read.Goals as goal
 
-pub returns-then-found-ne0 : goal.returns-then-found-ne0
-returns-then-found-ne0 c = read_none c.args.bytes.now _ c.held-found.ensures c.if-found-ne0.true
+pub returns-in_err-whole : goal.returns-in_err-whole
+returns-in_err-whole c =
+    ap opened_by (passed_on _ _ c.from_residual.ensures) ∙ read_none c.args.bytes.now _ c.in_err-whole.ensures (number_ne _)
 
-pub returns-then-unsound-ne0 : goal.returns-then-unsound-ne0
-returns-then-unsound-ne0 c = read_unsound c.args.bytes.now c.held-found.result _ _ c.held-found.ensures c.if-found-ne0.false (c.answer_of-unsound.ensures ∙ c.check.ensures) c.if-unsound-ne0.true c.refused.ensures
+pub returns-in_err-check : goal.returns-in_err-check
+returns-in_err-check c =
+    read_unsound c.args.bytes.now _ _ _ c.in_ok-whole.ensures refl c.in_err-check.ensures (number_ne _) (ap opened_by (passed_on _ _ c.from_residual-in_err-check.ensures))
 
 pub returns : goal.returns
-returns c = read_sound c.args.bytes.now c.held-found.result _ c.held-found.ensures c.if-found-ne0.false (c.answer_of-unsound.ensures ∙ c.check.ensures) c.if-unsound-ne0.false
+returns c = read_sound c.args.bytes.now _ _ c.in_ok-whole.ensures refl c.in_ok-check.ensures refl

@@ -1,22 +1,21 @@
-use mathlib.Core.Path.{◌≡◌, sym}
+use mathlib.Core.Path.{◌≡◌, ◌∙◌}
 use native.Mathlib.Omega.{arith}
-use Rattle.search.proofs.Count.{count_none, count_more}
-use Rattle.pool.specs.Pool.{frame_at}
+use lib.ListN.{length}
+use Rattle.std.proofs.Common.{rules}
+use Rattle.std.specs.Prelude.{count_by}
+use Rattle.std.proofs.iter.runs.Made.{chains}
+use Rattle.std.proofs.lemmas.List.Sums.{count_by-le-length}
+use Rattle.pool.specs.declared.Frame.{Frame}
+use Rattle.pool.specs.Pool.{empty_frame}
+use Rattle.pool.proofs.Listed.{count_places}
 use Rattle.image.specs.Layout.{used_in}
-use borrow.Author.Rules.{rules}
 use Rattle.image.proofs.used_frames.Goals as goal
-
-pub loop-i-init : goal.loop-i-init
-loop-i-init c = (search rules, search rules, sym (count_none _))
-
-pub loop-i-preserved : goal.loop-i-preserved
-loop-i-preserved c =
-    let l = c.loop-i in
-    let one = c.one_if-n.ensures in
-    let same = l.invariant.2 in
-    let more = count_more (λ j. (frame_at c.args.p.frames j).used) l.i in
-    (omega arith, omega arith, omega arith)
 
 pub returns : goal.returns
 unfolding used_in
-returns c = let e : c.loop-i.i ≡ 128 = omega arith in (rw e at c.loop-i.invariant.2, omega arith)
+returns c =
+    let frames = c.args.p.frames in
+    let counted : c.count.result ≡ count_by (λ (fr : Frame). fr.used) frames = search (rules, chains) in
+    let all : length frames ≡ 128 = search rules in
+    let few = count_by-le-length (λ (fr : Frame). fr.used) frames in
+    (counted ∙ count_places (λ (fr : Frame). fr.used) empty_frame frames ∙ rw all, omega arith)

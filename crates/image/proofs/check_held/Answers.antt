@@ -2,7 +2,7 @@ use lib.ListN.{length}
 use borrow.Author.Tests.{lt-leb, le-leb}
 use Rattle.image.specs.Layout.{image_header}
 use Rattle.image.specs.Image.{held_refusal}
-use Rattle.image.proofs.held_refusal.Goals as goal
+use Rattle.image.proofs.check_held.Goals as goal
 
 pub returns-then-bytes-lt-HEADER_LENGTH : goal.returns-then-bytes-lt-HEADER_LENGTH
 unfolding held_refusal
@@ -10,7 +10,7 @@ returns-then-bytes-lt-HEADER_LENGTH c = rw (lt-leb image_header (length c.args.b
 
 pub returns-in-Some : goal.returns-in-Some
 unfolding held_refusal
-returns-in-Some c = rw (le-leb _ _ c.if-bytes-lt-HEADER_LENGTH.false, ← c.in-Some.ensures) c.held_refusal_in.ensures
+returns-in-Some c = rw (le-leb _ _ c.if-bytes-lt-HEADER_LENGTH.false, ← c.in-Some.ensures) c.check_ordered.ensures
 
 pub returns-in-None : goal.returns-in-None
 unfolding held_refusal
