@@ -12,6 +12,7 @@ ghost use Rattle.effect.specs.Record.{record_of};
 ghost use Rattle.effect.specs.ForCode.{Leaves, Plays, settled_hit, settled_miss, settled_reference, settled_unpin, asked, asked_by, settled_by, place_of, room_pages, RoomMade, RoomAsked, RoomWhere, Framed, pins_with, hit_frame, fetched_frame, unpinned_frame, Enterable, LogsEnd, Entering, hit_in, fetched_in, entered};
 
 use pool::Frame;
+use refusal::Refusal;
 use table::{Bench, Table};
 use tally::Row;
 
@@ -37,7 +38,7 @@ fn settle_hit(pins: u8, i: usize, pin: bool) -> Row
     ensures { (result ≡ settled_hit pins i pin) × (result.frame < 128) }
 {
     if pin & (pins == PIN_LIMIT) {
-        return tally::refused_row(refusal::PINS_FULL);
+        return tally::refused_row(Refusal::PinsFull as u32);
     }
     row_at(tally::HIT, i)
 }
@@ -59,7 +60,7 @@ fn settle_reference(k: u32, found: Option<usize>, pins: u8, free: Option<usize>,
     ensures { (result ≡ settled_reference k found pins free pin) × (result.frame < 128) }
 {
     if limit::REFERENCE_LIMIT <= k {
-        return tally::refused_row(refusal::NO_REFERENCE_LEFT);
+        return tally::refused_row(Refusal::NoReferenceLeft as u32);
     }
     match found {
         Some(i) => settle_hit(pins, i, pin),
@@ -73,10 +74,10 @@ fn settle_unpin(found: Option<usize>, pins: u8) -> Row
     ensures { (result ≡ settled_unpin found pins) × (result.frame < 128) }
 {
     let Some(i) = found else {
-        return tally::refused_row(refusal::NOT_PINNED);
+        return tally::refused_row(Refusal::NotPinned as u32);
     };
     if pins == 0 {
-        return tally::refused_row(refusal::NOT_PINNED);
+        return tally::refused_row(Refusal::NotPinned as u32);
     }
     row_at(tally::UNPIN_DONE, i)
 }
@@ -126,7 +127,7 @@ fn settle(k: u32, found: Option<usize>, pins: u8, free: Option<usize>, asks: Ask
     if asks.unpin {
         return settle_unpin(found, pins);
     }
-    tally::refused_row(refusal::BAD_FIELD)
+    tally::refused_row(Refusal::BadField as u32)
 }
 
 // The frame in which a page was found, or 0.
@@ -166,7 +167,7 @@ fn make_room(bench: &mut Bench, out: &mut [u32], at: usize) -> Row
 {
     let found = victim::choose(bench);
     let Some(v) = found else {
-        return tally::refused_row(refusal::NO_FRAME);
+        return tally::refused_row(Refusal::NoFrame as u32);
     };
     let fr = table::frame_at(&bench.table, v);
     let n = batch::write(bench, v, out, at);
