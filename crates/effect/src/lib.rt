@@ -227,8 +227,8 @@ fn enter_hit(bench: &mut Bench, i: usize, writes: bool, pins: bool)
     let epoch = table::now_of(bench.head);
     let old = table::frame_at(&bench.table, i);
     let mut fr = hit_frame(old, writes, pins, bench.head.settings.cap, bench.head.k);
-    fr.accesses = reference::enter_access(&mut bench.access, i, fr.accesses, epoch);
-    fr.writes = reference::enter_write(&mut bench.write, i, fr.writes, epoch, writes);
+    fr.accesses = reference::enter::<8>(&mut bench.access, i, fr.accesses, epoch, true);
+    fr.writes = reference::enter::<4>(&mut bench.write, i, fr.writes, epoch, writes);
     table::put(&mut bench.table, i, fr);
     bench.head.k += 1;
 }
@@ -240,10 +240,10 @@ fn enter_fetch(bench: &mut Bench, i: usize, page: u32, writes: bool, pins: bool)
 {
     let epoch = table::now_of(bench.head);
     let mut fr = fetched_frame(page, writes, pins, bench.head.k);
-    reference::clear_access(&mut bench.access, i);
-    reference::clear_write(&mut bench.write, i);
-    fr.accesses = reference::enter_access(&mut bench.access, i, 0, epoch);
-    fr.writes = reference::enter_write(&mut bench.write, i, 0, epoch, writes);
+    reference::clear::<8>(&mut bench.access, i);
+    reference::clear::<4>(&mut bench.write, i);
+    fr.accesses = reference::enter::<8>(&mut bench.access, i, 0, epoch, true);
+    fr.writes = reference::enter::<4>(&mut bench.write, i, 0, epoch, writes);
     table::put(&mut bench.table, i, fr);
     table::note(&mut bench.table, page, i);
     bench.head.k += 1;

@@ -5,4 +5,4 @@ use Rattle.effect.proofs.enter_hit.Goals as goal
 pub returns : goal.returns
 returns c =
     hit_left (pool_on c.args.bench.now) _ _ _ _ c.now_of-epoch.ensures _ _ _ _ _ _ _
-    c.frame_at-old.ensures c.hit_frame-fr.ensures c.enter_access.ensures c.enter_write.ensures c.put.ensures
+    c.frame_at-old.ensures c.hit_frame-fr.ensures c.enter.ensures c.enter-2.ensures c.put.ensures

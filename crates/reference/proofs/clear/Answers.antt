@@ -1,5 +1,5 @@
 use mathlib.Core.Path.{◌≡◌, ap, sym, ◌∙◌}
-use Prim.Native.Nat.{ℕ, ◌+◌, ◌-◌}
+use Prim.Native.Nat.{ℕ, ◌+◌, ◌-◌, ◌*◌}
 use native.Mathlib.Omega.{arith}
 use lib.ListN.{length, take, drop, replicate, length-replicate, length-drop}
 use lib.Seq.{length-take-le}
@@ -8,10 +8,10 @@ use Rattle.reference.proofs.Logs.{clear_all, clear_rest}
 use Rattle.reference.proofs.clear.Goals as goal
 
 pub returns : goal.returns
-returns c =
-    let a = c.args.a.now in
-    let at = c.args.at in
-    let n = c.args.n in
+returns g c =
+    let a = c.args.logs.now in
+    let at = c.args.i * g.row.ROOM in
+    let n = g.row.ROOM in
     let width : at + n - at ≡ n = omega arith in
     let long : length (take (at + n - at) (drop at a)) ≡ n = length-take-le (at + n - at) (drop at a) (rw (length-drop at a) (omega arith)) ∙ width in
     let zeros = c.fill.ensures.after (λ y e. e) ∙ ap (λ (k : ℕ). replicate k 0) long in
