@@ -104,7 +104,7 @@ fn import_good(text: &[u8], n: usize, wish: Wish, order: Order, out: &mut [u8]) 
     ensures imports_back { ImportsBack text.now wish order result out.new }
 {
     if RECORD_LIMIT < n {
-        return Imported::Refused(refusal::TOO_MANY);
+        return Imported::Refused(refusal::Refusal::TooMany as u32);
     }
     let settings = wish::wished(wish, wish::usual());
     let r = import_records(text, n, settings, order, out);

@@ -245,7 +245,7 @@ fn export_accepted(bytes: &[u8], summary: Summary, out: &mut [u8]) -> Exported
 {
     let n = summary.count as usize;
     if out.len() < LINE_ROOM * n {
-        return Exported::Refused(refusal::NO_ROOM);
+        return Exported::Refused(refusal::Refusal::NoRoom as u32);
     }
     Exported::Written(put_lines(bytes, summary, out))
 }
