@@ -20,7 +20,7 @@ use Rattle.scribe.specs.Write.{write_refusal}
 use Rattle.wish.specs.declared.Wish.{Wish}
 use Rattle.wish.specs.Wish.{no_wish, chosen_from, fit_fields, wished_settings}
 use Rattle.wish.proofs.Laws.{no_wish_lem, unfit}
-use Rattle.text.specs.declared.Exported.TheVariants.{Written as Exported-as-Written}
+use Rattle.text.specs.Text.Exported.{Written as Exported-as-Written}
 use Rattle.text.specs.Text.{lines_in, pages_in, kinds_in, line_room, text_of, exported, export_refusal, ExportedInto, ReadsAs}
 use Rattle.text.proofs.Storing.{text_long}
 use Rattle.text.proofs.Round.{text_back}

@@ -8,7 +8,6 @@ use files::{Stop, printed};
 use lines::{Spaced, Text, say, say_refused};
 use refusal::Refusal;
 use std::io::{self, Write};
-use text::Exported;
 use wish::Wish;
 use words::Request;
 use words::names::Command;
@@ -91,8 +90,8 @@ fn set(rt: &HostRuntime, bytes: &[u8], request: &Request) -> Result<(), Stop> {
 fn export(rt: &HostRuntime, bytes: &[u8]) -> Result<(), Stop> {
     let mut space = zeros::<{ text::TEXT_LIMIT }>();
     match text::export(bytes, &mut space) {
-        Exported::Refused(r) => Err(refused(rt, say_refused(rt, r))),
-        Exported::Written(n) => printed(rt, say(rt, front(&space, n))),
+        Err(r) => Err(refused(rt, say_refused(rt, u32::from(r)))),
+        Ok(n) => printed(rt, say(rt, front(&space, n))),
     }
 }
 

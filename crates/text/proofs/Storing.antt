@@ -15,10 +15,8 @@ use Rattle.trace.specs.declared.Summary.{Summary}
 use Rattle.trace.specs.Check.Checked.{Accepted, Refused}
 use Rattle.trace.specs.Check.{refusal_of, check_of, trace_of}
 use Rattle.trace.proofs.Accept.{accepted, counts_are, refused_is}
-use Rattle.text.specs.declared.Exported.{Exported}
-use Rattle.text.specs.declared.Exported.TheVariants.{Written}
-use Rattle.text.specs.declared.Exported.TheVariants as answer
-use Rattle.text.specs.Text.{line_feed, word_of, decimal_of, line_text, line_room, text_to, text_of, export_refusal, ExportedInto}
+use Rattle.text.specs.Text.Exported.{Written, Refused as Exported-as-Refused}
+use Rattle.text.specs.Text.{line_feed, word_of, decimal_of, line_text, line_room, text_to, text_of, export_refusal, Exported, ExportedInto}
 use Rattle.text.proofs.Decimal.{decimal_few}
 
 pub word_short : (kind : ℕ) → length (word_of kind) ≤ 6
@@ -67,16 +65,16 @@ text_none pages kinds out = (refl, refl)
 -- ---- the calls
 
 module _ (s out : List ℕ) where
-  pub export_refused : (r : ℕ) → check_of s ≡ Refused r → ExportedInto s out (answer.Refused r) out
+  pub export_refused : (r : ℕ) → check_of s ≡ Refused r → ExportedInto s out (Exported-as-Refused r) out
   unfolding export_refusal
   export_refused r e = let f = refused_is s r e in go r f.0 f.1
     where
-      go : (n : ℕ) → refusal_of s ≡ n → (n ≡ 0 → ⊥) → ExportedInto s out (answer.Refused n) out
+      go : (n : ℕ) → refusal_of s ≡ n → (n ≡ 0 → ⊥) → ExportedInto s out (Exported-as-Refused n) out
       go zero h ne = absurd (ne refl)
       go (suc n) h ne = record { answers = rw h; bytes_hold = rw h }
 
   module _ (h : Summary) (e : check_of s ≡ Accepted h) where
-    pub export_no_room : length out < line_room * h.count → ExportedInto s out (answer.Refused no_room) out
+    pub export_no_room : length out < line_room * h.count → ExportedInto s out (Exported-as-Refused no_room) out
     unfolding export_refusal
     export_no_room l =
         let n = (counts_are s h e).0 in

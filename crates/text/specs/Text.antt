@@ -1,13 +1,13 @@
 -- A trace as text: a line for each record, a kind, one space and a number.
-use Rattle.std.specs.Prelude.{ℕ, zero, suc, ◌*◌, ◌/◌, Bool, true, false, ◌&&◌, Option, Some, None, List, [], ◌∷◌, ◌++◌, map, ◌≡◌, eqb, leb, ltb, length, drop, get_or}
+use Rattle.std.specs.Prelude.{ℕ, zero, suc, ◌*◌, ◌/◌, Bool, true, false, ◌&&◌, Option, Some, None, Result, Ok, Err, List, [], ◌∷◌, ◌++◌, map, ◌≡◌, eqb, leb, ltb, length, drop, get_or}
 use Rattle.io.specs.Digits.{last_digits}
 use Rattle.search.specs.Search.{pick}
+use Rattle.refusal.specs.declared.Refusal.{Refusal}
+use Rattle.refusal.specs.Numbers.{number_of}
 use Rattle.refusal.specs.Refusals.{demand, or_else, stored, no_room}
 use Rattle.trace.specs.Layout.{Trace}
 use Rattle.trace.specs.Check.{refusal_of, trace_of}
 use Rattle.numeral.specs.Numeral.{number_limit, numeral_of}
-use Rattle.text.specs.declared.Exported.{Exported}
-use Rattle.text.specs.declared.Exported.TheVariants.{Refused, Written}
 use Rattle.text.specs.declared.Line.{Line}
 use Rattle.text.specs.declared.Line.TheVariants.{Passed, Record, Bad}
 
@@ -151,6 +151,16 @@ text_of t = text_to t.pages t.kinds (length t.pages)
 -- after the trace's refusals 13: the longest line for each record
 unfoldable pub export_refusal : List ℕ → ℕ → ℕ
 export_refusal s room = or_else (refusal_of s) (demand (leb (line_room * length (trace_of s).pages) room) no_room 0)
+
+-- what comes of a trace as text: its refusal, or how many bytes the text has
+pub data Exported : Type 0 where
+  Refused : ℕ → Exported
+  Written : ℕ → Exported
+
+-- what a call answered
+abbrev pub exported_by : Result ℕ Refusal → Exported
+exported_by (Ok n) = Written n
+exported_by (Err r) = Refused (number_of r)
 
 -- how long the text is, or the refusal
 abbrev pub exported : ℕ → List ℕ → Exported

@@ -5,10 +5,11 @@ ghost use Rattle.std.specs.Prelude.{◌≡◌, ◌+◌, ◌*◌, ◌≤◌, eqb,
 ghost use Rattle.std.specs.Iterator.{YieldsFirstRef, item_count};
 ghost use Rattle.std.proofs.lemmas.List.Edits.{sets};
 ghost use Rattle.numeral.specs.Numeral.{numeral_of};
-ghost use Rattle.text.specs.Text.{line_feed, is_passed, record_line, line_of, lines_of, lines_in, is_bad, is_record, line_numbered, first_bad, page_of, kind_of, pages_in, kinds_in, word_of, decimal_of, line_text, line_room, text_of, ExportedInto};
+ghost use Rattle.text.specs.Text.{line_feed, is_passed, record_line, line_of, lines_of, lines_in, is_bad, is_record, line_numbered, first_bad, page_of, kind_of, pages_in, kinds_in, word_of, decimal_of, line_text, line_room, text_of, exported_by, ExportedInto};
 ghost use Rattle.trace.specs.Check.{check_of, trace_of};
 ghost use Rattle.trace.specs.Check.Checked.{Accepted};
 
+use refusal::Refusal;
 use trace::{Summary, Trace};
 
 // What a line is: passed over, a record's kind and page, or bad.
@@ -24,13 +25,6 @@ pub enum Line {
 pub struct Survey {
     pub bad: Option<usize>,
     pub records: usize,
-}
-
-// What comes of a trace as text: its refusal, or how many bytes the text has.
-#[derive(Clone, Copy)]
-pub enum Exported {
-    Refused(u32),
-    Written(usize),
 }
 
 // The bytes of the longest line, with its line feed.
@@ -239,24 +233,21 @@ fn put_lines(bytes: &[u8], summary: Summary, out: &mut [u8]) -> usize
     at
 }
 
-fn export_accepted(bytes: &[u8], summary: Summary, out: &mut [u8]) -> Exported
+fn export_accepted(bytes: &[u8], summary: Summary, out: &mut [u8]) -> Result<usize, Refusal>
     requires { check_of bytes.now ≡ Accepted summary }
-    ensures { ExportedInto bytes.now out.old result out.new }
+    ensures { ExportedInto bytes.now out.old (exported_by result) out.new }
 {
     let n = summary.count as usize;
     if out.len() < LINE_ROOM * n {
-        return Exported::Refused(refusal::Refusal::NoRoom as u32);
+        return Err(Refusal::NoRoom);
     }
-    Exported::Written(put_lines(bytes, summary, out))
+    Ok(put_lines(bytes, summary, out))
 }
 
 // A trace as text at the front of `out`: how many bytes it has, or the refusal with nothing stored.
-pub fn export(bytes: &[u8], out: &mut [u8]) -> Exported
-    ensures { ExportedInto bytes.now out.old result out.new }
+pub fn export(bytes: &[u8], out: &mut [u8]) -> Result<usize, Refusal>
+    ensures { ExportedInto bytes.now out.old (exported_by result) out.new }
 {
-    let c = trace::check(bytes);
-    match c {
-        Err(r) => Exported::Refused(u32::from(r)),
-        Ok(summary) => export_accepted(bytes, summary, out),
-    }
+    let summary = trace::check(bytes)?;
+    export_accepted(bytes, summary, out)
 }
