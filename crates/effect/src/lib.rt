@@ -103,6 +103,7 @@ fn asking(reference: bool, unpin: bool, write: bool, pin: bool) -> Asked
 }
 
 // What a record asks for, by its kind: read, write, pin, unpin, and a bad one. Nothing else looks at a kind.
+// By number: `replay::step` takes any kind, and refuses those that no record has.
 fn asked_by(kind: u16) -> Asked
     ensures { result ≡ asked_by kind }
 {
@@ -260,6 +261,7 @@ fn enter_unpin(table: &mut Table, i: usize)
 }
 
 // A record with that row (a hit, a miss, an unpin, else refused), on a pool that has room for it. A refused one leaves all as it was.
+// By number: a row's outcome is the number that C and the printed rows have.
 fn enter(bench: &mut Bench, row: Row, page: u32, asks: Asked)
     requires { Entering (pool_on bench.old) row }
     ensures { pool_on bench.new ≡ entered (pool_on bench.old) row page asks }

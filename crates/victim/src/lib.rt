@@ -26,6 +26,7 @@ pub fn name_of(rule: u16) -> &'static str
 }
 
 // What the pool's own rule chooses: its victim or none; it moves hand, sampler number and counts where they stand.
+// By number: settings hold a rule as a trace does, any number, and `choose` and `name_of` answer for each; an enum would ask more of callers.
 pub fn choose(bench: &mut Bench) -> Option<usize>
     requires { sound_pool (pool_on bench.old) ≡ true }
     ensures { Chose (pool_on bench.old) (choice_of (pool_on bench.old)) result bench.new }

@@ -1,5 +1,6 @@
 -- Settings that are wished for: a trace is taken as if its header said so.
-use Rattle.std.specs.Prelude.{ℕ, suc, ◌^◌, Bool, true, false, ◌&&◌, List, [], ◌∷◌, ltb, get_or, set, drop, replicate}
+use Rattle.std.specs.Prelude.{ℕ, suc, ◌^◌, Bool, true, ◌&&◌, Some, None, List, [], ◌∷◌, ltb, get_or, set, drop, replicate}
+use Rattle.std.specs.Option.{unwrap_or}
 use Rattle.search.specs.Search.{pick}
 use Rattle.settings.specs.declared.Settings.{Settings}
 use Rattle.settings.specs.Settings.{Field, the_fields, settings_numbers, settings_by}
@@ -7,15 +8,15 @@ use Rattle.wish.specs.declared.Wish.{Wish}
 
 -- every setting is kept
 abbrev pub no_wish : Wish
-no_wish = record { given = replicate 8 false; number = replicate 8 0 }
+no_wish = record { numbers = replicate 8 None }
 
 -- a wish with a number for one setting more, by its place among the eight; the last one counts
 abbrev pub wished_for : Wish → ℕ → ℕ → Wish
-wished_for w place n = record { given = set w.given place true; number = set w.number place n }
+wished_for w place n = record { numbers = set w.numbers place (Some n) }
 
 -- a setting's number: the one wished for, else its own
 abbrev pub chosen_at : Wish → ℕ → ℕ → ℕ
-chosen_at w place own = pick (get_or w.given place false) (get_or w.number place 0) own
+chosen_at w place own = unwrap_or (get_or w.numbers place None) own
 
 -- the same for settings from a place on
 abbrev pub chosen_from : Wish → ℕ → List ℕ → List ℕ

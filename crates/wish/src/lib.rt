@@ -7,11 +7,10 @@ ghost use Rattle.wish.specs.Wish.{no_wish, wished_for, chosen_at, fit_fields, se
 
 use settings::Settings;
 
-// For each setting, by its place among the eight, whether another number is wished for, and which.
+// For each setting, by its place among the eight, the number that is wished for, if any.
 #[derive(Clone, Copy)]
 pub struct Wish {
-    pub given: [bool; 8],
-    pub number: [u64; 8],
+    pub numbers: [Option<u64>; 8],
 }
 
 // The places of the settings.
@@ -35,10 +34,7 @@ pub const SEED: usize = 7;
 pub fn none() -> Wish
     ensures { result ≡ no_wish }
 {
-    Wish {
-        given: [false; 8],
-        number: [0; 8],
-    }
+    Wish { numbers: [None; 8] }
 }
 
 // A wish with one number more; the last one counts.
@@ -47,8 +43,7 @@ pub fn with(w: Wish, place: usize, number: u64) -> Wish
     ensures { result ≡ wished_for w place number }
 {
     let mut next = w;
-    next.given[place] = true;
-    next.number[place] = number;
+    next.numbers[place] = Some(number);
     next
 }
 
@@ -57,7 +52,7 @@ fn chosen(w: Wish, place: usize, own: u64) -> u64
     requires { place < 8 }
     ensures { result ≡ chosen_at w place own }
 {
-    if w.given[place] { w.number[place] } else { own }
+    w.numbers[place].unwrap_or(own)
 }
 
 // Whether each number fits its field.
