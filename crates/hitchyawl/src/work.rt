@@ -50,15 +50,6 @@ fn answered(rt: &HostRuntime, said: io::Result<Result<(), Refusal>>) -> Result<(
     printed(rt, said)?.map_err(|_| Stop::Refused)
 }
 
-// The same, with a refusal's number, or 0.
-fn ended(rt: &HostRuntime, said: io::Result<u32>) -> Result<(), Stop> {
-    match said {
-        Ok(0) => Ok(()),
-        Ok(_) => Err(Stop::Refused),
-        Err(error) => Err(files::failed(rt, b"standard output", &error)),
-    }
-}
-
 fn check(rt: &HostRuntime, bytes: &[u8]) -> Result<(), Stop> {
     granted(rt, trace::check(bytes))?;
     printed(rt, say(rt, b"accepted\n"))
@@ -181,7 +172,7 @@ pub fn run(rt: &HostRuntime, request: &Request) -> Result<(), Stop> {
         Command::Image => on_whole(
             rt,
             input,
-            |bytes| ended(rt, listing::inspect_image(rt, bytes)),
+            |bytes| answered(rt, listing::inspect_image(rt, bytes)),
         ),
         Command::Curve => on_trace(rt, input, |bytes| sizes::curve(rt, bytes, request.svg)),
     }

@@ -203,20 +203,13 @@ pub fn inspect(out: &impl Print, bytes: &[u8]) -> io::Result<Result<(), Refusal>
     }
 }
 
-// Prints the order of an image and the pool that it holds, or that it is refused, and answers the refusal or 0.
-pub fn inspect_image(out: &impl Print, bytes: &[u8]) -> io::Result<u32>
-    ensures { IfOk result (λ answer. answer ≡ (image_of bytes.now).refusal) }
+// Prints the order of an image and the pool that it holds, or that it is refused, and answers that.
+pub fn inspect_image(out: &impl Print, bytes: &[u8]) -> io::Result<Result<(), Refusal>>
+    ensures { IfOk result (λ answer. answer_of answer ≡ (image_of bytes.now).refusal) }
 {
     match image::read(bytes) {
-        Ok(pool) => {
-            say_image(out, image::order_of(bytes), &pool)?;
-            Ok(0)
-        }
-        Err(refusal) => {
-            let number = u32::from(refusal);
-            say_image_refused(out, number)?;
-            Ok(number)
-        }
+        Ok(pool) => say_image(out, image::order_of(bytes), &pool).map(|()| Ok(())),
+        Err(refusal) => say_image_refused(out, u32::from(refusal)).map(|()| Err(refusal)),
     }
 }
 
