@@ -1,5 +1,5 @@
 use mathlib.Core.Path.{◌≡◌}
-use Prim.Native.Nat.{◌≤◌, ◌-◌}
+use Prim.Native.Nat.{◌≤◌}
 use Rattle.trace.specs.Layout.{kind_at, zero_at, up_to, known_kinds, all_zero, writes_in}
 use Rattle.trace.proofs.survey_of.Given as goal
 
