@@ -12,7 +12,7 @@ use Rattle.trace.specs.Layout.{Trace}
 use Rattle.trace.specs.Check.{refusal_of, trace_of}
 use Rattle.trace.proofs.Whole.{proper}
 use Rattle.pool.specs.declared.Pool.{Pool}
-use Rattle.pool.specs.declared.Opened.{Opened}
+use Rattle.pool.specs.Pool.{Opened}
 use Rattle.image.specs.Image.{SavedTo, Typed}
 use Rattle.image.proofs.Undo.{save_read}
 use Rattle.tally.specs.declared.Tally.{Tally}

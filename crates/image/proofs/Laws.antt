@@ -25,8 +25,7 @@ use Rattle.trace.proofs.Lists.{length_up_to}
 use Rattle.trace.proofs.Sizes.{length_mark}
 use Rattle.pool.specs.declared.Frame.{Frame}
 use Rattle.pool.specs.declared.Pool.{Pool}
-use Rattle.pool.specs.declared.Opened.{Opened}
-use Rattle.pool.specs.Pool.{frame_room, frame_at, fresh_pool, opened}
+use Rattle.pool.specs.Pool.{frame_room, frame_at, fresh_pool, opened, Opened}
 use Rattle.pool.specs.Sound.{pool_refusal}
 use Rattle.pool.proofs.Sizes.{Sized}
 use Rattle.entry.specs.Run.{run_of}

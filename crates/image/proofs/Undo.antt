@@ -13,8 +13,7 @@ use Rattle.word.proofs.Laws.{Bytes, sets_front}
 use Rattle.refusal.specs.Refusals.{demand, no_room}
 use Rattle.refusal.proofs.Laws.{met, neither}
 use Rattle.pool.specs.declared.Pool.{Pool}
-use Rattle.pool.specs.declared.Opened.{Opened}
-use Rattle.pool.specs.Pool.{opened}
+use Rattle.pool.specs.Pool.{opened, Opened}
 use Rattle.pool.specs.Sound.{sound_pool, pool_refusal}
 use Rattle.pool.proofs.ByFrame.{passed_sound}
 use Rattle.image.specs.Layout.{image_length, used_in, encode_pool}

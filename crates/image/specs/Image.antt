@@ -7,8 +7,7 @@ use Rattle.settings.specs.Settings.{one_frame}
 use Rattle.trace.specs.Layout.{mark_of}
 use Rattle.trace.specs.Check.{order_marked}
 use Rattle.pool.specs.declared.Pool.{Pool}
-use Rattle.pool.specs.declared.Opened.{Opened}
-use Rattle.pool.specs.Pool.{frame_room, access_room, write_room, frame_at, fresh_pool, opened}
+use Rattle.pool.specs.Pool.{frame_room, access_room, write_room, frame_at, fresh_pool, opened, Opened}
 use Rattle.pool.specs.Sound.{pool_refusal}
 use Rattle.entry.specs.Entry.{entry_length, zero_in, entry_fits}
 use Rattle.image.specs.Layout.{image_edition, image_header, image_length, edition_at, zero_at6, used_at, offset_at, entry_length_at, length_at, zero_at44, zero_at54, zero_at60, pool_at, used_in, encode_pool}

@@ -9,8 +9,7 @@ use Rattle.settings.specs.Settings.{in_range, one_frame}
 use Rattle.settings.proofs.Laws.{ranges}
 use Rattle.search.proofs.Every.{pick_ind}
 use Rattle.pool.specs.declared.Frame.{Frame}
-use Rattle.pool.specs.declared.Opened.{Opened}
-use Rattle.pool.specs.Pool.{empty_frame, frame_at, fresh_pool, opened, fresh_of, last_epoch_of}
+use Rattle.pool.specs.Pool.{empty_frame, frame_at, fresh_pool, opened, fresh_of, last_epoch_of, Opened}
 use Rattle.pool.specs.Sound.{sound_pool}
 use Rattle.pool.proofs.Sound.{Logged, SoundFrame, Sound, made}
 

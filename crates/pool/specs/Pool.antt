@@ -8,7 +8,6 @@ use Rattle.settings.specs.declared.Settings.{Settings}
 use Rattle.settings.specs.Settings.{in_range, one_frame}
 use Rattle.pool.specs.declared.Frame.{Frame}
 use Rattle.pool.specs.declared.Pool.{Pool}
-use Rattle.pool.specs.declared.Opened.{Opened}
 
 -- up to 128 frames
 abbrev pub frame_room : ℕ
@@ -107,6 +106,11 @@ fresh_pool s = record {
 }
 
 -- a refusal or 0, and a pool
+pub record Opened : Type 0 where
+  pub refusal : ℕ
+  pub pool : Pool
+
+-- what such a call comes to
 abbrev pub opened : ℕ → Pool → Opened
 opened r p = record { refusal = r; pool = p }
 

@@ -17,8 +17,7 @@ use Rattle.search.proofs.Count.{count_cong}
 use Rattle.trace.specs.Check.{trace_of}
 use Rattle.pool.specs.declared.Frame.{Frame}
 use Rattle.pool.specs.declared.Pool.{Pool}
-use Rattle.pool.specs.declared.Opened.{Opened}
-use Rattle.pool.specs.Pool.{frame_at, empty_frame, with_page}
+use Rattle.pool.specs.Pool.{frame_at, empty_frame, with_page, Opened}
 use Rattle.refusal.specs.Refusals.{stored}
 use Rattle.pool.specs.Sound.{sound_pool, pool_refusal}
 use Rattle.pool.proofs.Sound.{told, made}

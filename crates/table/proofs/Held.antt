@@ -14,7 +14,6 @@ use mir.Val.{bool_byte}
 use Rattle.search.specs.Search.{one_if}
 use Rattle.search.proofs.Least.{last_or_below}
 use Rattle.pool.specs.declared.Frame.{Frame}
-use Rattle.pool.specs.declared.Pool.{Pool}
 use Rattle.pool.specs.Pool.{empty_frame, frame_at, with_count, with_dirty}
 use Rattle.table.specs.Table.{table_length, guess_start, frame_in, frames_to, frames_in}
 use Rattle.table.proofs.Cells.{place, stores, other_frame, other_field, own_field}

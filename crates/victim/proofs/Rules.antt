@@ -1,5 +1,5 @@
 -- What every rule owes, the pool's own rule owes.
-use Rattle.std.proofs.Common.{◌≡◌, ℕ, zero, suc, ◌≤◌, List, [], sym, refl, ap, subst, ◌∙◌, arith, Option, None}
+use Rattle.std.proofs.Common.{◌≡◌, ℕ, zero, suc, ◌≤◌, [], sym, refl, ap, subst, ◌∙◌, arith, Option, None}
 use Rattle.search.proofs.Least.{one_or_none}
 use Rattle.settings.proofs.Laws.{ranges}
 use Rattle.pool.specs.declared.Pool.{Pool}

@@ -1,4 +1,4 @@
-use mathlib.Core.Path.{sym, ◌∙◌}
+use mathlib.Core.Path.{sym}
 use Rattle.amend.proofs.Laws.{counted_refused}
 use Rattle.amend.proofs.counts_of.Goals as goal
 

@@ -1,10 +1,9 @@
-use Rattle.std.proofs.Common.{◌≤◌, ◌≡◌, ◌∙◌, arith}
+use Rattle.std.proofs.Common.{◌∙◌, arith}
 use Rattle.std.proofs.Math.ListN.{length-set}
 use Rattle.settings.proofs.Laws.{ranges}
 use Rattle.pool.proofs.Sound.{told}
 use Rattle.table.specs.Table.{pool_on}
 use Rattle.victim.proofs.lru.Laws.{lasts_below}
-use Rattle.batch.specs.ForCode.{KeyedTo}
 use Rattle.batch.proofs.Numbers.{keyed_more}
 use Rattle.batch.proofs.key_all.Goals as goal
 

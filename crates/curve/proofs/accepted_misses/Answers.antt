@@ -1,6 +1,5 @@
 use mathlib.Core.Path.{◌∙◌}
 use native.Mathlib.Omega.{arith}
-use lib.ListN.{length}
 use borrow.Author.Tests.{leb-true}
 use Rattle.refusal.proofs.Laws.{passed_on}
 use Rattle.curve.proofs.Counting.{sparing}

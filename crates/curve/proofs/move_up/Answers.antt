@@ -1,5 +1,4 @@
 use Prim.Native.Nat.{◌<◌}
-use native.Mathlib.Omega.{arith}
 use lib.ListN.{length}
 use Rattle.curve.proofs.Moving.{copied_down}
 use Rattle.curve.proofs.move_up.Goals as goal

@@ -5,7 +5,6 @@ use lib.ListN.{length-set, length-replicate}
 use Rattle.trace.specs.declared.Record.{Record}
 use Rattle.trace.proofs.Accept.{accepted_few, counts_are}
 use Rattle.curve.proofs.Counting.{stack_none, stands, stack_more, found_is, times_none, times_few, times_more, plain_none, plain_more, plain_all}
-use borrow.Author.Rules.{rules}
 use Rattle.curve.proofs.pass.Goals as goal
 
 pub loop-i-init : goal.loop-i-init

@@ -1,5 +1,4 @@
 use mathlib.Core.Path.{refl}
-use native.Mathlib.Omega.{arith}
 use lib.ListN.{length-set}
 use Rattle.curve.proofs.Counting.{left_none, left_more, leavings_none, leavings_more}
 use Rattle.curve.proofs.put_curve.Goals as goal

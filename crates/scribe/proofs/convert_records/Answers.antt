@@ -1,6 +1,6 @@
 use native.Mathlib.Omega.{arith}
 use Rattle.trace.specs.Check.{trace_of}
-use Rattle.trace.proofs.Accept.{record_within, accepted_few}
+use Rattle.trace.proofs.Accept.{record_within}
 use Rattle.scribe.proofs.Laws.{records_more}
 use Rattle.scribe.proofs.convert_records.Goals as goal
 

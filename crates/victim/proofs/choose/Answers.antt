@@ -1,5 +1,5 @@
 use Rattle.victim.proofs.Rules.{chose_by, choice_none}
-use Rattle.std.proofs.Common.{refl, ap, arith}
+use Rattle.std.proofs.Common.{ap, arith}
 use Rattle.table.specs.Table.{pool_on}
 use Rattle.victim.specs.Choice.{left_by}
 use Rattle.victim.proofs.choose.Goals as goal

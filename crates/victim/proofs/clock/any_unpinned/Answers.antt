@@ -1,4 +1,4 @@
-use Rattle.std.proofs.Common.{◌≡◌, sym, ◌∙◌, arith, rules, eq-eqb, ne_eqb}
+use Rattle.std.proofs.Common.{◌≡◌, sym, ◌∙◌, arith, eq-eqb, ne_eqb}
 use Rattle.search.proofs.Least.{least_zero, least_skip, first_found}
 use Rattle.victim.specs.Clock.{any_unpinned}
 use Rattle.victim.proofs.clock.any_unpinned.Goals as goal

@@ -2,7 +2,7 @@ use Rattle.std.proofs.Common.{sym, refl, ◌∙◌}
 use Rattle.settings.proofs.Laws.{ranges}
 use Rattle.pool.proofs.Sound.{told}
 use Rattle.table.specs.Table.{pool_on}
-use Rattle.victim.proofs.clock.Sweeping.{some_free, way_swept, way_pinned}
+use Rattle.victim.proofs.clock.Sweeping.{way_swept, way_pinned}
 use Rattle.victim.proofs.clock.choose.Goals as goal
 
 pub any_unpinned-free-requires : goal.any_unpinned-free-requires

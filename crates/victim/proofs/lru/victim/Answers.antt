@@ -1,4 +1,4 @@
-use Rattle.std.proofs.Common.{◌≡◌, eqb, ap, ◌∙◌, arith, rules}
+use Rattle.std.proofs.Common.{◌≡◌, eqb, ap, ◌∙◌, arith}
 use Rattle.pool.specs.Pool.{frame_at}
 use Rattle.pool.specs.declared.Frame.{Frame}
 use Rattle.table.specs.Table.{frames_in}

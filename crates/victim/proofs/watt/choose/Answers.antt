@@ -1,9 +1,8 @@
-use Rattle.std.proofs.Common.{◌≡◌, ap}
+use Rattle.std.proofs.Common.{ap}
 use Rattle.settings.proofs.Laws.{ranges}
 use Rattle.pool.proofs.Sound.{told}
 use Rattle.table.specs.Table.{pool_on}
-use Rattle.victim.specs.Choice.{Choice, left_by}
-use Rattle.victim.specs.ForCode.{chosen_on}
+use Rattle.victim.specs.Choice.{left_by}
 use Rattle.victim.proofs.watt.Values.{now_is}
 use Rattle.victim.proofs.watt.Turns.{victim_is, choice_is}
 use Rattle.victim.proofs.watt.choose.Goals as goal
