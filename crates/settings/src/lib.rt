@@ -9,6 +9,7 @@ use word::{Order, Word};
 
 #[derive(Clone, Copy, Debug, PartialEq, Eq)]
 pub struct Settings {
+    // A number and no enum: any settings may be handed in, also with a rule that there is none of.
     pub rule: u16,
     pub frames: u16,
     pub batch: u16,
