@@ -24,8 +24,8 @@ use Rattle.text.specs.Text.Exported.{Written as Exported-as-Written}
 use Rattle.text.specs.Text.{lines_in, pages_in, kinds_in, line_room, text_of, exported, export_refusal, ExportedInto, ReadsAs}
 use Rattle.text.proofs.Storing.{text_long}
 use Rattle.text.proofs.Round.{text_back}
-use Rattle.amend.specs.declared.Imported.{Imported}
-use Rattle.amend.specs.declared.Imported.TheVariants.{Written}
+use Rattle.amend.specs.Amend.{Imported}
+use Rattle.amend.specs.Amend.Imported.{Written}
 use Rattle.amend.specs.Amend.{wished_trace, set_refusal, SetInto, trace_in, ImportedInto, ImportsBack}
 
 -- an export that is not refused stores the whole text, and it fits

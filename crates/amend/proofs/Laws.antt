@@ -26,9 +26,9 @@ use Rattle.wish.specs.declared.Wish.{Wish}
 use Rattle.wish.specs.Wish.{wished_for, wished_settings, usual_settings}
 use Rattle.text.specs.Text.{lines_in, first_bad, pages_in, kinds_in}
 use Rattle.text.proofs.Filling.{numbers_many}
-use Rattle.amend.specs.declared.Imported.TheVariants.{BadLine, Refused, Written}
+use Rattle.amend.specs.Amend.Imported.{BadLine, Refused, Written}
 use Rattle.amend.specs.Amend.{wished_trace, set_refusal, SetInto, SetsBack, trace_in, ImportedInto, ImportsBack, not_counted, sheet_by, sheet_of, sheet_with}
-use Rattle.amend.specs.declared.Counted.{Counted}
+use Rattle.amend.specs.Amend.{Counted}
 use Rattle.amend.specs.Quote.{quote_tally}
 
 -- a trace as written, under another name of its settings

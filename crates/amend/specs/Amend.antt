@@ -1,21 +1,25 @@
 -- A trace taken as if its header said otherwise, and the trace of a text.
-use Rattle.std.specs.Prelude.{ℕ, zero, suc, ◌≡◌, List, length, take}
+use Rattle.std.specs.Prelude.{ℕ, zero, suc, ◌≡◌, List, length, take, Result, Ok, Err}
 use Rattle.word.specs.declared.Order.{Order}
+use Rattle.refusal.specs.declared.Refusal.{Refusal}
 use Rattle.refusal.specs.Refusals.{or_else, stored}
+use Rattle.refusal.specs.Numbers.{number_of}
+use Rattle.settings.specs.declared.Settings.{Settings}
 use Rattle.settings.specs.Settings.{one_frame}
 use Rattle.trace.specs.Layout.{Trace, trace_from, file_length, record_limit}
 use Rattle.trace.specs.Encode.{encode}
 use Rattle.trace.specs.Check.{refusal_of, trace_of, decode}
 use Rattle.trace.specs.Check.Outcome.{Whole}
 use Rattle.scribe.specs.Write.{write_refusal}
+use Rattle.tally.specs.declared.Tally.{Tally}
 use Rattle.tally.specs.Tally.{zero_tally}
 use Rattle.fresh.specs.Fresh.{fresh_counts}
 use Rattle.wish.specs.declared.Wish.{Wish}
 use Rattle.wish.specs.Wish.{wished_settings, usual_settings}
 use Rattle.text.specs.Text.{lines_in, first_bad, pages_in, kinds_in}
-use Rattle.amend.specs.declared.Imported.{Imported}
-use Rattle.amend.specs.declared.Imported.TheVariants.{BadLine, Refused, Written}
-use Rattle.amend.specs.declared.Counted.{Counted}
+use Rattle.amend.specs.declared.Fault.{Fault}
+use Rattle.amend.specs.declared.Fault.TheVariants.{BadLine as At-line, Refused as By-refusal}
+use Rattle.amend.specs.declared.Sheet.{Sheet}
 
 -- the same records with the settings wished for
 abbrev pub wished_trace : Wish → Trace → Trace
@@ -38,6 +42,18 @@ SetsBack s w answer out = answer ≡ 0 → decode (take (length s) out) ≡ Whol
 abbrev pub trace_in : List ℕ → Wish → Order → Trace
 trace_in text w order = trace_from (wished_settings w usual_settings) order (pages_in (lines_in text)) (kinds_in (lines_in text))
 
+-- what comes of a text: its first bad line, the trace's refusal, or how many bytes the trace has
+pub data Imported : Type 0 where
+  BadLine : ℕ → Imported
+  Refused : ℕ → Imported
+  Written : ℕ → Imported
+
+-- what a call answered
+abbrev pub imported_by : Result ℕ Fault → Imported
+imported_by (Ok n) = Written n
+imported_by (Err (At-line line)) = BadLine line
+imported_by (Err (By-refusal refusal)) = Refused (number_of refusal)
+
 -- the first bad line, else the writer's refusal, else how long the trace is
 abbrev pub imported : ℕ → ℕ → ℕ → Imported
 imported (suc line) refusal size = BadLine (suc line)
@@ -53,9 +69,21 @@ pub record ImportedInto (text : List ℕ) (w : Wish) (order : Order) (out : List
 abbrev pub ImportsBack : List ℕ → Wish → Order → Imported → List ℕ → Type 0
 ImportsBack text w order answer out = (n : ℕ) → answer ≡ Written n → decode (take n out) ≡ Whole (trace_in text w order)
 
+-- what a sheet says: the refusal or 0; settings, number of records and counts
+pub record Counted : Type 0 where
+  pub refusal : ℕ
+  pub settings : Settings
+  pub count : ℕ
+  pub tally : Tally
+
 -- nothing is counted of what is refused: the least settings, no record, no count
 abbrev pub not_counted : ℕ → Counted
 not_counted r = record { refusal = r; settings = one_frame; count = 0; tally = zero_tally }
+
+-- what a call answered
+abbrev pub counted_by : Result Sheet Refusal → Counted
+counted_by (Ok sheet) = record { refusal = 0; settings = sheet.settings; count = sheet.count; tally = sheet.tally }
+counted_by (Err refusal) = not_counted (number_of refusal)
 
 -- the numbers of a sheet, from a fresh pool
 unfoldable pub sheet_by : ℕ → Trace → Counted

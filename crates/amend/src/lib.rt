@@ -6,29 +6,36 @@ ghost use Rattle.trace.specs.Layout.{record_limit, trace_from};
 ghost use Rattle.wish.specs.Wish.{wished_settings};
 ghost use Rattle.text.specs.Text.{lines_in, first_bad, pages_in, kinds_in};
 ghost use Rattle.scribe.specs.Write.{WrittenTo, ReadsBack};
-ghost use Rattle.trace.specs.Check.{check_of};
-ghost use Rattle.trace.specs.Check.Checked.{Accepted};
-ghost use Rattle.amend.specs.Amend.{SetInto, SetsBack, ImportedInto, ImportsBack, not_counted, sheet_of, sheet_with};
+ghost use Rattle.refusal.specs.Numbers.{answer_of};
+ghost use Rattle.amend.specs.declared.Fault.TheVariants.{Refused};
+ghost use Rattle.amend.specs.Amend.{SetInto, SetsBack, imported_by, ImportedInto, ImportsBack, counted_by, sheet_of, sheet_with};
 ghost use Rattle.amend.specs.Quote.{nearer_of, next_size, quote_tally, quote_line};
 
+use refusal::Refusal;
 use settings::Settings;
 use tally::Tally;
 use trace::{RECORD_LIMIT, Summary, Trace};
 use wish::Wish;
 use word::Order;
 
-// What comes of a text: its first bad line, the trace's refusal, or how many bytes the trace has.
-#[derive(Clone, Copy)]
-pub enum Imported {
+// Why a text becomes no trace: its first bad line, or the trace's refusal.
+#[derive(Clone, Copy, Debug, PartialEq, Eq)]
+pub enum Fault {
     BadLine(usize),
-    Refused(u32),
-    Written(usize),
+    Refused(Refusal),
 }
 
-// What a sheet says: the refusal or 0; settings, number of records and counts.
-#[derive(Clone, Copy)]
-pub struct Counted {
-    pub refusal: u32,
+impl From<Refusal> for Fault {
+    ghost from_gives = { λ refusal fault. fault ≡ Refused refusal };
+
+    fn from(refusal: Refusal) -> Fault {
+        Fault::Refused(refusal)
+    }
+}
+
+// What a sheet says: settings, number of records and counts.
+#[derive(Clone, Copy, Debug, PartialEq, Eq)]
+pub struct Sheet {
     pub settings: Settings,
     pub count: u32,
     pub tally: Tally,
@@ -45,12 +52,12 @@ fn write_first(
     kinds: &[u16],
     n: usize,
     out: &mut [u8],
-) -> u32
+) -> Result<(), Refusal>
     requires { (n ≤ length pages.now) × (n ≤ length kinds.now) }
-    ensures written_to { WrittenTo (trace_from settings order (take n pages.now) (take n kinds.now)) out.old result out.new }
-    ensures reads_back { ReadsBack (trace_from settings order (take n pages.now) (take n kinds.now)) result out.new }
+    ensures written_to { WrittenTo (trace_from settings order (take n pages.now) (take n kinds.now)) out.old (answer_of result) out.new }
+    ensures reads_back { ReadsBack (trace_from settings order (take n pages.now) (take n kinds.now)) (answer_of result) out.new }
 {
-    refusal::answer_of(scribe::write(settings, order, &pages[..n], &kinds[..n], out))
+    scribe::write(settings, order, &pages[..n], &kinds[..n], out)
 }
 
 // The records of an accepted trace with other settings, from the lists that they were read into.
@@ -60,10 +67,10 @@ fn set_accepted(
     pages: &[u32; RECORD_LIMIT],
     kinds: &[u16; RECORD_LIMIT],
     out: &mut [u8],
-) -> u32
+) -> Result<(), Refusal>
     requires { summary.count ≤ record_limit }
-    ensures written_to { WrittenTo (trace_from (wished_settings wish summary.settings) summary.order (take summary.count pages.now) (take summary.count kinds.now)) out.old result out.new }
-    ensures reads_back { ReadsBack (trace_from (wished_settings wish summary.settings) summary.order (take summary.count pages.now) (take summary.count kinds.now)) result out.new }
+    ensures written_to { WrittenTo (trace_from (wished_settings wish summary.settings) summary.order (take summary.count pages.now) (take summary.count kinds.now)) out.old (answer_of result) out.new }
+    ensures reads_back { ReadsBack (trace_from (wished_settings wish summary.settings) summary.order (take summary.count pages.now) (take summary.count kinds.now)) (answer_of result) out.new }
 {
     let own = summary.settings;
     let order = summary.order;
@@ -71,25 +78,28 @@ fn set_accepted(
     write_first(wish::wished(wish, own), order, pages, kinds, n, out)
 }
 
-// The same records with other settings at the front of `out`: 0, or the refusal with nothing stored.
-pub fn set(bytes: &[u8], wish: Wish, out: &mut [u8]) -> u32
-    ensures set_into { SetInto bytes.now wish out.old result out.new }
-    ensures sets_back { SetsBack bytes.now wish result out.new }
+// The same records with other settings at the front of `out`, or the refusal with nothing stored.
+pub fn set(bytes: &[u8], wish: Wish, out: &mut [u8]) -> Result<(), Refusal>
+    ensures set_into { SetInto bytes.now wish out.old (answer_of result) out.new }
+    ensures sets_back { SetsBack bytes.now wish (answer_of result) out.new }
 {
     let mut pages = [0u32; RECORD_LIMIT];
     let mut kinds = [0u16; RECORD_LIMIT];
-    let c = trace::read(bytes, &mut pages, &mut kinds);
-    match c {
-        Err(r) => u32::from(r),
-        Ok(summary) => set_accepted(summary, wish, &pages, &kinds, out),
-    }
+    let summary = trace::read(bytes, &mut pages, &mut kinds)?;
+    set_accepted(summary, wish, &pages, &kinds, out)
 }
 
 // The n records of a text as a trace.
-fn import_records(text: &[u8], n: usize, settings: Settings, order: Order, out: &mut [u8]) -> u32
+fn import_records(
+    text: &[u8],
+    n: usize,
+    settings: Settings,
+    order: Order,
+    out: &mut [u8],
+) -> Result<(), Refusal>
     requires { (n ≡ length (pages_in (lines_in text.now))) × (n ≤ record_limit) }
-    ensures written_to { WrittenTo (trace_from settings order (pages_in (lines_in text.now)) (kinds_in (lines_in text.now))) out.old result out.new }
-    ensures reads_back { ReadsBack (trace_from settings order (pages_in (lines_in text.now)) (kinds_in (lines_in text.now))) result out.new }
+    ensures written_to { WrittenTo (trace_from settings order (pages_in (lines_in text.now)) (kinds_in (lines_in text.now))) out.old (answer_of result) out.new }
+    ensures reads_back { ReadsBack (trace_from settings order (pages_in (lines_in text.now)) (kinds_in (lines_in text.now))) (answer_of result) out.new }
 {
     let mut pages = [0u32; RECORD_LIMIT];
     let mut kinds = [0u16; RECORD_LIMIT];
@@ -98,83 +108,56 @@ fn import_records(text: &[u8], n: usize, settings: Settings, order: Order, out: 
 }
 
 // The trace of a text without a bad line at the front of `out`.
-fn import_good(text: &[u8], n: usize, wish: Wish, order: Order, out: &mut [u8]) -> Imported
+fn import_good(
+    text: &[u8],
+    n: usize,
+    wish: Wish,
+    order: Order,
+    out: &mut [u8],
+) -> Result<usize, Fault>
     requires { (n ≡ length (pages_in (lines_in text.now))) × (first_bad 0 (lines_in text.now) ≡ 0) }
-    ensures imported_into { ImportedInto text.now wish order out.old result out.new }
-    ensures imports_back { ImportsBack text.now wish order result out.new }
+    ensures imported_into { ImportedInto text.now wish order out.old (imported_by result) out.new }
+    ensures imports_back { ImportsBack text.now wish order (imported_by result) out.new }
 {
     if RECORD_LIMIT < n {
-        return Imported::Refused(refusal::Refusal::TooMany as u32);
+        return Err(Fault::Refused(Refusal::TooMany));
     }
     let settings = wish::wished(wish, wish::usual());
-    let r = import_records(text, n, settings, order, out);
-    if r != 0 {
-        return Imported::Refused(r);
-    }
-    Imported::Written(trace::HEADER_LENGTH + trace::RECORD_LENGTH * n)
+    import_records(text, n, settings, order, out)?;
+    Ok(trace::HEADER_LENGTH + trace::RECORD_LENGTH * n)
 }
 
 // The trace of a text at the front of `out`: its length, or what is refused with nothing stored.
-pub fn import(text: &[u8], wish: Wish, order: Order, out: &mut [u8]) -> Imported
-    ensures imported_into { ImportedInto text.now wish order out.old result out.new }
-    ensures imports_back { ImportsBack text.now wish order result out.new }
+pub fn import(text: &[u8], wish: Wish, order: Order, out: &mut [u8]) -> Result<usize, Fault>
+    ensures imported_into { ImportedInto text.now wish order out.old (imported_by result) out.new }
+    ensures imports_back { ImportsBack text.now wish order (imported_by result) out.new }
 {
     let found = text::survey_of(text);
     if let Some(line) = found.bad {
-        return Imported::BadLine(line);
+        return Err(Fault::BadLine(line));
     }
     import_good(text, found.records, wish, order, out)
 }
 
-fn not_counted(refusal: u32) -> Counted
-    ensures { result ≡ not_counted refusal }
-{
-    let settings = settings::one_frame();
-    let tally = tally::zero();
-    Counted {
-        refusal: refusal,
-        settings: settings,
-        count: 0,
-        tally: tally,
-    }
-}
-
-fn counts_accepted(bytes: &[u8], summary: Summary) -> Counted
-    requires { check_of bytes.now ≡ Accepted summary }
-    ensures { result ≡ sheet_of bytes.now }
-{
-    let settings = summary.settings;
-    let tally = fresh::counts(&Trace { bytes, summary });
-    Counted {
-        refusal: 0,
-        settings: settings,
-        count: summary.count,
-        tally: tally,
-    }
-}
-
 // What the sheet of a trace says.
-pub fn counts_of(bytes: &[u8]) -> Counted
-    ensures { result ≡ sheet_of bytes.now }
+pub fn counts_of(bytes: &[u8]) -> Result<Sheet, Refusal>
+    ensures { counted_by result ≡ sheet_of bytes.now }
 {
-    let c = trace::check(bytes);
-    match c {
-        Err(r) => not_counted(u32::from(r)),
-        Ok(summary) => counts_accepted(bytes, summary),
-    }
+    let trace = Trace::of(bytes)?;
+    Ok(Sheet {
+        settings: trace.summary.settings,
+        count: trace.summary.count,
+        tally: fresh::counts(&trace),
+    })
 }
 
 // What its sheet says where it is taken as if its header said otherwise.
-pub fn counts(bytes: &[u8], wish: Wish) -> Counted
-    ensures { result ≡ sheet_with bytes.now wish }
+pub fn counts(bytes: &[u8], wish: Wish) -> Result<Sheet, Refusal>
+    ensures { counted_by result ≡ sheet_with bytes.now wish }
 {
     let mut space = [0u8; trace::BYTE_LIMIT];
-    let r = set(bytes, wish, &mut space);
-    if r != 0 {
-        return not_counted(r);
-    }
-    let n = bytes.len();
-    counts_of(&space[..n])
+    set(bytes, wish, &mut space)?;
+    counts_of(&space[..bytes.len()])
 }
 
 // A size where it is above the last one and below the best so far; 0 is none.
@@ -213,8 +196,10 @@ fn quote_tally(bytes: &[u8], wish: Wish, rule: u64, frames: u64) -> Tally
     ensures { result ≡ quote_tally bytes.now wish rule frames }
 {
     let sized = wish::with(wish, wish::FRAMES, frames);
-    let c = counts(bytes, wish::with(sized, wish::RULE, rule));
-    c.tally
+    match counts(bytes, wish::with(sized, wish::RULE, rule)) {
+        Ok(sheet) => sheet.tally,
+        Err(_) => tally::zero(),
+    }
 }
 
 // The numbers of a quote's line: misses and pages written under each rule.

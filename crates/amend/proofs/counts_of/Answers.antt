@@ -1,7 +1,12 @@
-use mathlib.Core.Path.{sym}
-use Rattle.amend.proofs.Laws.{counted_refused}
+use mathlib.Core.Path.{sym, refl}
+use Rattle.refusal.proofs.Laws.{passed_on}
+use Rattle.amend.proofs.Laws.{counted_whole, counted_refused}
 use Rattle.amend.proofs.counts_of.Goals as goal
 
-pub returns-in-Err : goal.returns-in-Err
-returns-in-Err c =
-    counted_refused c.args.bytes.now _ _ (sym c.in-Err.ensures.value) (rw c.from.ensures at c.not_counted.ensures)
+pub returns-in_err-trace : goal.returns-in_err-trace
+returns-in_err-trace c =
+    rw (passed_on _ _ c.from_residual.ensures) (counted_refused c.args.bytes.now _ _ (sym c.in_err-trace.ensures.value) refl)
+
+pub returns : goal.returns
+returns c =
+    counted_whole _ _ _ (sym c.in_ok-trace.ensures.value) (rw c.in_ok-trace.ensures.same at c.counts.ensures)
