@@ -4,11 +4,10 @@
 use std::io::Result;
 
 fn bench(out: &impl Print, bytes: &[u8]) -> Result<()> {
-    let c = amend::counts_of(bytes);
-    if c.refusal != 0 {
-        return lines::say_refused(out, c.refusal);
+    match amend::counts_of(bytes) {
+        Ok(sheet) => listing::say_sheet(out, sheet.settings, sheet.count, sheet.tally),
+        Err(refusal) => lines::say_refused(out, u32::from(refusal)),
     }
-    listing::say_sheet(out, c.settings, c.count, c.tally)
 }
 
 // One byte more than the longest trace has is read, so that a longer input shows its wrong length.

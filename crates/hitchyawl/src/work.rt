@@ -2,7 +2,7 @@
 ghost use Rattle.std.specs.Prelude.{◌≡◌, IfOk, Ok};
 
 use crate::{carry, sizes};
-use amend::Imported;
+use amend::Fault;
 use files::spaces::{INPUT_SPACE, TRACE_SPACE, zeros};
 use files::{Stop, printed};
 use lines::{Spaced, Text, say, say_refused};
@@ -35,16 +35,6 @@ pub fn granted<T>(rt: &HostRuntime, answer: Result<T, Refusal>) -> Result<T, Sto
     answer.map_err(|refusal| refused(rt, say_refused(rt, u32::from(refusal))))
 }
 
-// The same of a refusal's number, or 0.
-pub fn granted_number(rt: &HostRuntime, refusal: u32) -> Result<(), Stop>
-    ensures { IfOk result (λ _. refusal ≡ 0) }
-{
-    if refusal == 0 {
-        return Ok(());
-    }
-    Err(refused(rt, say_refused(rt, refusal)))
-}
-
 // A call that prints has answered, and has printed a refusal.
 fn answered(rt: &HostRuntime, said: io::Result<Result<(), Refusal>>) -> Result<(), Stop> {
     printed(rt, said)?.map_err(|_| Stop::Refused)
@@ -68,7 +58,7 @@ pub fn amended<'a>(
     wish: Wish,
     space: &'a mut [u8],
 ) -> Result<&'a [u8], Stop> {
-    granted_number(rt, amend::set(bytes, wish, space))?;
+    granted(rt, amend::set(bytes, wish, space))?;
     Ok(front(space, bytes.len()))
 }
 
@@ -80,10 +70,8 @@ fn set(rt: &HostRuntime, bytes: &[u8], request: &Request) -> Result<(), Stop> {
 
 fn export(rt: &HostRuntime, bytes: &[u8]) -> Result<(), Stop> {
     let mut space = zeros::<{ text::TEXT_LIMIT }>();
-    match text::export(bytes, &mut space) {
-        Err(r) => Err(refused(rt, say_refused(rt, u32::from(r)))),
-        Ok(n) => printed(rt, say(rt, front(&space, n))),
-    }
+    let size = granted(rt, text::export(bytes, &mut space))?;
+    printed(rt, say(rt, front(&space, size)))
 }
 
 // A line of a quote, with so many frames.
@@ -115,9 +103,8 @@ fn quote_sizes(out: &impl Print, bytes: &[u8], wish: Wish, own: u16) -> io::Resu
 }
 
 fn quote(rt: &HostRuntime, bytes: &[u8], wish: Wish) -> Result<(), Stop> {
-    let c = amend::counts(bytes, wish);
-    granted_number(rt, c.refusal)?;
-    printed(rt, quote_sizes(rt, bytes, wish, c.settings.frames))
+    let sheet = granted(rt, amend::counts(bytes, wish))?;
+    printed(rt, quote_sizes(rt, bytes, wish, sheet.settings.frames))
 }
 
 // What is said of a text's first bad line.
@@ -128,9 +115,9 @@ fn say_bad_line(out: &impl Print, n: usize) -> io::Result<()> {
 fn import(rt: &HostRuntime, text: &[u8], request: &Request) -> Result<(), Stop> {
     let mut space = zeros::<TRACE_SPACE>();
     match amend::import(text, request.wish, request.order, &mut space) {
-        Imported::BadLine(n) => Err(refused(rt, say_bad_line(rt, n))),
-        Imported::Refused(r) => Err(refused(rt, say_refused(rt, r))),
-        Imported::Written(n) => files::write(rt, request.output, front(&space, n)),
+        Ok(size) => files::write(rt, request.output, front(&space, size)),
+        Err(Fault::BadLine(n)) => Err(refused(rt, say_bad_line(rt, n))),
+        Err(Fault::Refused(refusal)) => Err(refused(rt, say_refused(rt, u32::from(refusal)))),
     }
 }
 
