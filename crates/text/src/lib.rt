@@ -6,11 +6,10 @@ ghost use Rattle.std.specs.Iterator.{YieldsFirstRef, item_count};
 ghost use Rattle.std.proofs.lemmas.List.Edits.{sets};
 ghost use Rattle.numeral.specs.Numeral.{numeral_of};
 ghost use Rattle.text.specs.Text.{line_feed, is_passed, record_line, line_of, lines_of, lines_in, is_bad, is_record, line_numbered, first_bad, page_of, kind_of, pages_in, kinds_in, word_of, decimal_of, line_text, line_room, text_of, exported_by, ExportedInto};
-ghost use Rattle.trace.specs.Check.{check_of, trace_of};
-ghost use Rattle.trace.specs.Check.Checked.{Accepted};
+ghost use Rattle.trace.specs.Check.{trace_of};
 
 use refusal::Refusal;
-use trace::{Summary, Trace};
+use trace::Trace;
 
 // What a line is: passed over, a record's kind and page, or bad.
 #[derive(Clone, Copy)]
@@ -219,35 +218,34 @@ fn put_line(out: &mut [u8], at: usize, kind: u16, page: u32) -> usize
 }
 
 // The lines of an accepted trace; answers how many bytes they have.
-fn put_lines(bytes: &[u8], summary: Summary, out: &mut [u8]) -> usize
-    requires { (check_of bytes.now ≡ Accepted summary) × (line_room * summary.count ≤ length out.old) }
-    ensures value { result ≡ length (text_of (trace_of bytes.now)) }
-    ensures out_after { out.new ≡ sets out.old 0 (text_of (trace_of bytes.now)) }
+fn put_lines(trace: &Trace, out: &mut [u8]) -> usize
+    requires { line_room * trace.now.summary.count ≤ length out.old }
+    ensures value { result ≡ length (text_of (trace_of trace.now.bytes.now)) }
+    ensures out_after { out.new ≡ sets out.old 0 (text_of (trace_of trace.now.bytes.now)) }
 {
-    let n = summary.count as usize;
+    let n = trace.summary.count as usize;
     let mut at = 0;
     for i in 0..n {
-        let record = Trace { bytes, summary }.record_at(i);
+        let record = trace.record_at(i);
         at = put_line(out, at, record.kind, record.page);
     }
     at
 }
 
-fn export_accepted(bytes: &[u8], summary: Summary, out: &mut [u8]) -> Result<usize, Refusal>
-    requires { check_of bytes.now ≡ Accepted summary }
-    ensures { ExportedInto bytes.now out.old (exported_by result) out.new }
+fn export_accepted(trace: &Trace, out: &mut [u8]) -> Result<usize, Refusal>
+    ensures { ExportedInto trace.now.bytes.now out.old (exported_by result) out.new }
 {
-    let n = summary.count as usize;
+    let n = trace.summary.count as usize;
     if out.len() < LINE_ROOM * n {
         return Err(Refusal::NoRoom);
     }
-    Ok(put_lines(bytes, summary, out))
+    Ok(put_lines(trace, out))
 }
 
 // A trace as text at the front of `out`: how many bytes it has, or the refusal with nothing stored.
 pub fn export(bytes: &[u8], out: &mut [u8]) -> Result<usize, Refusal>
     ensures { ExportedInto bytes.now out.old (exported_by result) out.new }
 {
-    let summary = trace::check(bytes)?;
-    export_accepted(bytes, summary, out)
+    let trace = Trace::of(bytes)?;
+    export_accepted(&trace, out)
 }

@@ -11,14 +11,14 @@ use Rattle.text.proofs.put_lines.Goals as goal
 pub loop-i-init : goal.loop-i-init
 loop-i-init c =
     let a = c.args in
-    let t = trace_of a.bytes.now in
+    let t = trace_of a.trace.now.bytes.now in
     let none = text_none t.pages t.kinds a.out.now in
     (omega arith, none.0, none.1)
 
 pub loop-i-preserved : goal.loop-i-preserved
 loop-i-preserved c =
     let a = c.args in
-    let t = trace_of a.bytes.now in
+    let t = trace_of a.trace.now.bytes.now in
     let page = ap (λ (x : Record). x.page) c.record_at-record.ensures in
     let kind = ap (λ (x : Record). x.kind) c.record_at-record.ensures in
     let more = text_more t.pages t.kinds a.out.now c.loop-i.out c.put_line-at.new.out c.loop-i.i c.loop-i.at c.put_line-at.result
@@ -29,13 +29,13 @@ loop-i-preserved c =
 pub returns-clause-value : goal.returns-clause-value
 unfolding text_of
 returns-clause-value c =
-    let n = counts_are c.args.bytes.now c.args.summary c.requires.0 in
-    let e : c.loop-i.i ≡ length (trace_of c.args.bytes.now).pages = omega arith in
+    let n = counts_are c.args.trace.now.bytes.now c.args.trace.now.summary c.args.trace.now.accepted in
+    let e : c.loop-i.i ≡ length (trace_of c.args.trace.now.bytes.now).pages = omega arith in
     c.loop-i.invariant.1 ∙ rw e
 
 pub returns-clause-out_after : goal.returns-clause-out_after
 unfolding text_of
 returns-clause-out_after c =
-    let n = counts_are c.args.bytes.now c.args.summary c.requires.0 in
-    let e : c.loop-i.i ≡ length (trace_of c.args.bytes.now).pages = omega arith in
+    let n = counts_are c.args.trace.now.bytes.now c.args.trace.now.summary c.args.trace.now.accepted in
+    let e : c.loop-i.i ≡ length (trace_of c.args.trace.now.bytes.now).pages = omega arith in
     c.loop-i.invariant.2 ∙ rw e
