@@ -171,7 +171,7 @@ fn nearer(last: u16, size: u16, best: u16) -> u16
     }
 }
 
-// The next size of a quote for a trace of `own` frames, or 0.
+// The next size of a quote for a trace of `own` frames, or 0, which stands before the first size and behind the last: one number tells both.
 pub fn next_size(own: u16, last: u16) -> u16
     ensures { result ≡ next_size own last }
 {

@@ -17,6 +17,6 @@ pub fn counts(trace: &Trace) -> Tally
     }
     let mut pool = pool::empty(trace.summary.settings);
     let mut tally = tally::zero();
-    replay::count(&mut pool, &mut tally, trace.bytes, trace.summary);
+    replay::count(&mut pool, &mut tally, trace);
     tally
 }

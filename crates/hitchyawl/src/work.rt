@@ -15,7 +15,7 @@ use words::names::Command;
 // A quote has a line for each of eight sizes and the trace's own.
 const QUOTE_LINES: u32 = 9;
 
-// The first n bytes, or all of them where there are fewer.
+// The first n bytes, or all of them where there are fewer: a call tells how many it has stored, and no promise of it says that they are there.
 pub fn front(bytes: &[u8], n: usize) -> &[u8] {
     bytes.get(..n).unwrap_or(bytes)
 }

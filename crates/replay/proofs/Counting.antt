@@ -10,7 +10,8 @@ use borrow.Author.Tests.{leb-true}
 use Rattle.trace.specs.declared.Summary.{Summary}
 use Rattle.trace.specs.declared.Record.{Record}
 use Rattle.trace.specs.Layout.{Trace, record_limit, record_in, writes_in}
-use Rattle.trace.specs.Check.{trace_of}
+use Rattle.trace.specs.Check.Checked.{Accepted}
+use Rattle.trace.specs.Check.{check_of, trace_of}
 use Rattle.search.proofs.Count.{count_few}
 use Rattle.trace.proofs.Lists.{writes_le}
 use Rattle.trace.proofs.Accept.{accepted_few, counts_are}
@@ -31,7 +32,7 @@ use Rattle.effect.specs.Record.{Did, record_of, dirty_in}
 use Rattle.effect.specs.ForCode.{Effect, effect_of, Plays}
 use Rattle.replay.specs.declared.Ended.{Ended}
 use Rattle.replay.specs.Replay.{replay_to, replay_of}
-use Rattle.replay.specs.Calls.{room_for, ended_as, ended_of}
+use Rattle.replay.specs.Calls.{may_begin, room_for, ended_as, ended_of}
 use Rattle.replay.specs.ForCode.{Ready}
 use Rattle.replay.proofs.Laws.{doing}
 use Rattle.replay.proofs.Begins.{begins_sound, begins_within, counts_fit}
@@ -42,6 +43,10 @@ use Rattle.replay.proofs.Running.{Counting, Listing, same_doing, counting_all}
 pub dirty_few : (fs : List Frame) → dirty_in fs ≤ 128
 unfolding dirty_in
 dirty_few fs = count_few (λ i. (frame_at fs i).dirty) 128
+
+-- what the loops ask, of a trace that is accepted
+pub ready_by : (p : Pool) (t : Tally) (s : List ℕ) (h : Summary) → may_begin p t ≡ true → check_of s ≡ Accepted h → Ready p t s h
+ready_by p t s h b a = record { begins = b; accepted = a }
 
 module _ (p : Pool) (t : Tally) (s : List ℕ) (h : Summary) (z : Sized p) (y : Ready p t s h) where
   abbrev trace : Trace

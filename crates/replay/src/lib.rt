@@ -3,19 +3,19 @@
 
 ghost use Rattle.std.specs.Prelude.{◌≡◌, true, ◌≤◌, length, IfOk, IfErr};
 ghost use Rattle.refusal.specs.Numbers.{number_of, answer_of};
-ghost use Rattle.trace.specs.Check.{check_of, trace_of};
-ghost use Rattle.trace.specs.Check.Checked.{Accepted};
+ghost use Rattle.trace.specs.Check.{trace_of};
 ghost use Rattle.effect.specs.Record.{dirty_in};
 ghost use Rattle.replay.specs.Replay.{replay_of};
 ghost use Rattle.replay.specs.Calls.{may_begin, step_refusal, stepped_by, StepInto, counts_refusal, room_for, ended_as, ended_of, counts_of, ReplayInto};
-ghost use Rattle.replay.specs.ForCode.{Ready, RanInto};
+ghost use Rattle.replay.specs.ForCode.{RanInto};
 
 use pool::{Frame, Pool};
 use refusal::Refusal;
 use tally::{Row, Tally};
-use trace::{Summary, Trace};
+use trace::Trace;
 
-// What a replay came to: a refusal or 0, and pool and tally afterwards, for who hands them on together.
+// What a replay came to: a refusal or 0, and pool and tally afterwards, as `counts_of` has them. Who prints a replay hands them on by value: where a
+// write fails, a lent pool would be neither that before nor that after.
 #[derive(Clone, Copy)]
 pub struct Ended {
     pub refusal: u32,
@@ -66,22 +66,15 @@ fn dirty_frames(frames: &[Frame; 128]) -> usize
 
 // Every record of an accepted trace, with rows and written pages. This loop and that of `count` differ in where a record's pages go: here behind
 // those of the record before, there over them; one loop for both would be told the place each time.
-fn run(
-    pool: &mut Pool,
-    tally: &mut Tally,
-    bytes: &[u8],
-    summary: Summary,
-    rows: &mut [u32],
-    list: &mut [u32],
-)
-    requires { Ready pool.old tally.old bytes.now summary × (room_for pool.old (trace_of bytes.now) (length rows.old) (length list.old) ≡ true) }
-    ensures { RanInto pool.old tally.old bytes.now rows.old list.old (ended_as 0 pool.new tally.new) rows.new list.new }
+fn run(pool: &mut Pool, tally: &mut Tally, trace: &Trace, rows: &mut [u32], list: &mut [u32])
+    requires { (may_begin pool.old tally.old ≡ true) × (room_for pool.old (trace_of trace.now.bytes.now) (length rows.old) (length list.old) ≡ true) }
+    ensures { RanInto pool.old tally.old trace.now.bytes.now rows.old list.old (ended_as 0 pool.new tally.new) rows.new list.new }
 {
     let mut bench = table::bench_of(pool);
     let mut t = *tally;
     let mut at: usize = 0;
-    for i in 0..summary.count as usize {
-        let record = Trace { bytes, summary }.record_at(i);
+    for i in 0..trace.summary.count as usize {
+        let record = trace.record_at(i);
         let row = effect::play(&mut bench, record.page, record.kind, list, at);
         tally::put_row(rows, 4 * i, row);
         t = tally::raised(t, row);
@@ -93,15 +86,15 @@ fn run(
 
 // Every record of an accepted trace, counted only: the pages of one batch are written over those of the one before. Who has checked pool,
 // tally and trace calls it at once.
-pub fn count(pool: &mut Pool, tally: &mut Tally, bytes: &[u8], summary: Summary)
-    requires { Ready pool.old tally.old bytes.now summary }
-    ensures { ended_as 0 pool.new tally.new ≡ ended_of 0 pool.old tally.old (replay_of pool.old tally.old (trace_of bytes.now)) }
+pub fn count(pool: &mut Pool, tally: &mut Tally, trace: &Trace)
+    requires { may_begin pool.old tally.old ≡ true }
+    ensures { ended_as 0 pool.new tally.new ≡ ended_of 0 pool.old tally.old (replay_of pool.old tally.old (trace_of trace.now.bytes.now)) }
 {
     let mut scratch = [0u32; 16];
     let mut bench = table::bench_of(pool);
     let mut t = *tally;
-    for i in 0..summary.count as usize {
-        let record = Trace { bytes, summary }.record_at(i);
+    for i in 0..trace.summary.count as usize {
+        let record = trace.record_at(i);
         let row = effect::play(&mut bench, record.page, record.kind, &mut scratch, 0);
         t = tally::raised(t, row);
     }
@@ -109,18 +102,18 @@ pub fn count(pool: &mut Pool, tally: &mut Tally, bytes: &[u8], summary: Summary)
     *tally = t;
 }
 
-// What a trace holds that may be replayed with this pool and tally: refusals 14, 1 to 8 and 15.
-fn begin(pool: &Pool, tally: Tally, bytes: &[u8]) -> Result<Summary, Refusal>
-    ensures ok { IfOk result (λ summary. Ready pool.now tally bytes.now summary × (counts_refusal pool.now tally bytes.now ≡ 0)) }
+// The trace that may be replayed with this pool and tally: refusals 14, 1 to 8 and 15.
+fn begin<'a>(pool: &Pool, tally: Tally, bytes: &'a [u8]) -> Result<Trace<'a>, Refusal>
+    ensures ok { IfOk result (λ trace. (trace.bytes.now ≡ bytes.now) × (may_begin pool.now tally ≡ true) × (counts_refusal pool.now tally bytes.now ≡ 0)) }
     ensures err { IfErr result (λ refusal. counts_refusal pool.now tally bytes.now ≡ number_of refusal) }
 {
     refusal::demand(may_begin(pool, tally), Refusal::NotSound)?;
-    let summary = trace::check(bytes)?;
+    let trace = Trace::of(bytes)?;
     refusal::demand(
-        settings::same(summary.settings, pool.settings),
+        settings::same(trace.summary.settings, pool.settings),
         Refusal::OtherSettings,
     )?;
-    Ok(summary)
+    Ok(trace)
 }
 
 // Replay to counts: pool and tally are then as at its end, or as they were where it is refused.
@@ -128,17 +121,16 @@ pub fn counts(pool: &mut Pool, tally: &mut Tally, bytes: &[u8]) -> Result<(), Re
     ensures { ended_as (answer_of result) pool.new tally.new ≡ counts_of pool.old tally.old bytes.now }
 {
     let accepted = begin(pool, *tally, bytes)?;
-    count(pool, tally, bytes, accepted);
+    count(pool, tally, &accepted);
     Ok(())
 }
 
 // Whether the lists have room for the rows and written pages of an accepted trace.
-fn has_room(p: &Pool, bytes: &[u8], summary: Summary, rows: usize, places: usize) -> bool
-    requires { check_of bytes.now ≡ Accepted summary }
-    ensures { result ≡ room_for p.now (trace_of bytes.now) rows places }
+fn has_room(p: &Pool, trace: &Trace, rows: usize, places: usize) -> bool
+    ensures { result ≡ room_for p.now (trace_of trace.now.bytes.now) rows places }
 {
-    let n = summary.count as usize;
-    let writes = Trace { bytes, summary }.writes() as usize;
+    let n = trace.summary.count as usize;
+    let writes = trace.writes() as usize;
     let dirty = dirty_frames(&p.frames);
     (4 * n <= rows) & (writes + dirty <= places)
 }
@@ -153,9 +145,9 @@ pub fn replay(
 ) -> Result<(), Refusal>
     ensures { ReplayInto pool.old tally.old bytes.now rows.old written.old (ended_as (answer_of result) pool.new tally.new) rows.new written.new }
 {
-    let summary = begin(pool, *tally, bytes)?;
-    let roomy = has_room(pool, bytes, summary, rows.len(), written.len());
+    let trace = begin(pool, *tally, bytes)?;
+    let roomy = has_room(pool, &trace, rows.len(), written.len());
     refusal::demand(roomy, Refusal::NoRoom)?;
-    run(pool, tally, bytes, summary, rows, written);
+    run(pool, tally, &trace, rows, written);
     Ok(())
 }

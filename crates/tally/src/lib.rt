@@ -25,6 +25,7 @@ pub struct Tally {
     pub refused: u32,
 }
 
+// An outcome is a number, since a row is four numbers (`row_numbers`) and a refusal's number is part of it.
 pub const HIT: u32 = 0;
 
 pub const MISS_UNUSED: u32 = 1;

@@ -11,7 +11,7 @@ ghost use Rattle.trace.specs.Check.{trace_of};
 use refusal::Refusal;
 use trace::Trace;
 
-// What a line is: passed over, a record's kind and page, or bad.
+// What a line is: passed over, a record's kind and page, or bad. That is three things, one more than an Option tells.
 #[derive(Clone, Copy)]
 pub enum Line {
     Passed,
@@ -181,7 +181,7 @@ fn put_bytes(out: &mut [u8], at: usize, bytes: &[u8]) -> usize
     end
 }
 
-// A kind's word and the space behind it.
+// A kind's word and the space behind it. A kind is a number, since the records that a writer is handed may have any (refusal 6).
 fn put_word(out: &mut [u8], at: usize, kind: u16) -> usize
     requires { at + 6 ≤ length out.old }
     ensures value { result ≡ at + length (word_of kind) }

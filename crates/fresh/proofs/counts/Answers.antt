@@ -7,7 +7,7 @@ returns-then-trace-eq0 c =
 
 pub count-requires : goal.count-requires
 count-requires c =
-    fresh_ready _ _ _ _ c.args.trace.now.accepted c.empty-pool.ensures c.zero-tally.ensures
+    (fresh_ready _ _ _ _ c.args.trace.now.accepted c.empty-pool.ensures c.zero-tally.ensures).begins
 
 pub returns : goal.returns
 returns c =

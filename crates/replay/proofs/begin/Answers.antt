@@ -9,17 +9,17 @@ returns-in_err-demand c =
     let a = c.in_err-demand.ensures.first in
     rw (p.1, p.2, a.1) (record { ok = tt; err = not_begun _ _ _ (sym c.may_begin.ensures ∙ a.0) })
 
-pub returns-in_err-summary : goal.returns-in_err-summary
-returns-in_err-summary c =
-    let p = err_from_is_err_and c.from_residual-in_err-summary.result c.from_residual-in_err-summary.ensures.1 in
+pub returns-in_err-trace : goal.returns-in_err-trace
+returns-in_err-trace c =
+    let p = err_from_is_err_and c.from_residual-in_err-trace.result c.from_residual-in_err-trace.ensures.1 in
     let begins = sym c.may_begin.ensures ∙ c.in_ok-demand.ensures.first in
-    rw (p.1, p.2) (record { ok = tt; err = (trace_refused _ _ _ _ begins (sym c.in_err-summary.ensures.value)).0 })
+    rw (p.1, p.2) (record { ok = tt; err = (trace_refused _ _ _ _ begins (sym c.in_err-trace.ensures.value)).0 })
 
 pub returns-in_err-demand-2 : goal.returns-in_err-demand-2
 returns-in_err-demand-2 c =
     let p = err_from_is_err_and c.from_residual-in_err-demand-2.result c.from_residual-in_err-demand-2.ensures.1 in
     let begins = sym c.may_begin.ensures ∙ c.in_ok-demand.ensures.first in
-    let accepted = sym c.in_ok-summary.ensures.value in
+    let accepted = sym c.in_ok-trace.ensures.value in
     let a = c.in_err-demand-2.ensures.first in
     let same = sym (settings_of_lem _ _ c.args.pool.now.settings accepted) ∙ sym c.same.ensures ∙ a.0 in
     rw (p.1, p.2, a.1) (record { ok = tt; err = trace_accepted _ _ _ _ begins accepted ∙ rw same })
@@ -27,6 +27,6 @@ returns-in_err-demand-2 c =
 pub returns : goal.returns
 returns c =
     let begins = sym c.may_begin.ensures ∙ c.in_ok-demand.ensures.first in
-    let accepted = sym c.in_ok-summary.ensures.value in
+    let accepted = sym c.in_ok-trace.ensures.value in
     let same = sym (settings_of_lem _ _ c.args.pool.now.settings accepted) ∙ sym c.same.ensures ∙ c.in_ok-demand-2.ensures.first in
-    record { ok = (record { begins = begins; accepted = accepted }, trace_accepted _ _ _ _ begins accepted ∙ rw same); err = tt }
+    record { ok = (c.in_ok-trace.ensures.same, begins, trace_accepted _ _ _ _ begins accepted ∙ rw same); err = tt }

@@ -12,7 +12,7 @@ returns-in_err-accepted c =
     rw (p.1, p.2) (counts_refused _ _ _ _ _ c.in_err-accepted.ensures.err (λ e. omega arith) refl)
 
 pub count-requires : goal.count-requires
-count-requires c = c.in_ok-accepted.ensures.ok.0
+count-requires c = c.in_ok-accepted.ensures.ok.1
 
 pub returns : goal.returns
-returns c = counts_done _ _ _ _ c.in_ok-accepted.ensures.ok.1 c.count.ensures
+returns c = counts_done _ _ _ _ c.in_ok-accepted.ensures.ok.2 (rw c.in_ok-accepted.ensures.ok.0 at c.count.ensures)

@@ -7,5 +7,5 @@ use Rattle.replay.proofs.run.Given as goal
 
 abbrev pub invariant-loop-i : goal.invariant-loop-i
 invariant-loop-i l = (length l.rows ≡ length l.initial.rows) × (length l.list ≡ length l.initial.list)
-    × Counting l.fn.pool l.initial.t (trace_of l.bytes) (pool_on l.bench) l.t l.i
-    × Listing l.fn.pool l.initial.t (trace_of l.bytes) l.initial.rows l.initial.list l.rows l.list l.at l.i
+    × Counting l.fn.pool l.initial.t (trace_of l.trace.bytes.now) (pool_on l.bench) l.t l.i
+    × Listing l.fn.pool l.initial.t (trace_of l.trace.bytes.now) l.initial.rows l.initial.list l.rows l.list l.at l.i
