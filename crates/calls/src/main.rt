@@ -88,6 +88,7 @@ fn call_of(number: u32) -> Option<Call> {
     }
 }
 
+// The number is a case's own, and no order elsewhere.
 fn order_of(number: u32) -> Order {
     if number == 0 { Order::High } else { Order::Low }
 }
@@ -162,6 +163,7 @@ fn try_replay(
     dump::put_tally(text, tally)
 }
 
+// By itself, since `try_replay` lends two lists more and prints them.
 fn try_counts(
     text: &mut Text<'_, impl Print>,
     pool: Pool,

@@ -20,7 +20,7 @@ pub fn put_mark(out: &mut [u8], order: Order)
     }
 }
 
-// The first 24 bytes of the header.
+// The first 24 bytes of the header. An image has other numbers in its own.
 fn put_counts(out: &mut [u8], order: Order, n: u32, writes: u32)
     requires { (header_length ≤ length out.old) × (n ≤ record_limit) }
     ensures { out.new ≡ sets out.old 0 (front_bytes order n writes) }

@@ -18,7 +18,7 @@ pub fn say_refused(out: &impl Print, refusal: u32) -> Result<()> {
     println!(out; "trace refused {refusal}")
 }
 
-// All that is said of a bad image.
+// All that is said of a bad image: a line with other words.
 pub fn say_image_refused(out: &impl Print, refusal: u32) -> Result<()> {
     println!(out; "image refused {refusal}")
 }

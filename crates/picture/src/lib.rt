@@ -32,7 +32,7 @@ fn put_lines(text: &mut Text<'_, impl Print>, most: u32) -> Result<()> {
     Ok(())
 }
 
-// The number of each line, and of the axis, at its left.
+// The number of each line, and of the axis, at its left. What it shares with `put_lines` is the loop, and not a word of the text.
 fn put_labels(text: &mut Text<'_, impl Print>, most: u32) -> Result<()> {
     for t in 0..=ticks_for(most) {
         let misses = tick_for(most, t);
@@ -90,6 +90,7 @@ fn put_names(text: &mut Text<'_, impl Print>, misses: &[u32; 128]) -> Result<()>
     )
 }
 
+// The mark of each such size: another text at the same places.
 fn put_marks(text: &mut Text<'_, impl Print>) -> Result<()> {
     for frames in MARKS {
         let x = x_for(frames);

@@ -100,6 +100,7 @@ pub fn write(
     Ok(())
 }
 
+// Two cases: no trait of std says `the other` of two plainly.
 fn other_order(order: Order) -> Order
     ensures { result ≡ other order }
 {

@@ -91,7 +91,7 @@ pub fn put_count(table: &mut [u32], i: usize, n: u8)
     table[i + 512] = u32::from(n);
 }
 
-// Frame i becomes clean.
+// Frame i becomes clean. One store, as in `put_count`: one function for both would be told the field.
 pub fn clean(table: &mut [u32], i: usize)
     requires { (i < 128) × (length table.old ≡ table_length) }
     ensures { frames_in table.new ≡ set (frames_in table.old) i (with_dirty (frame_at (frames_in table.old) i) false) }

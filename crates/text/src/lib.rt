@@ -195,7 +195,7 @@ fn put_word(out: &mut [u8], at: usize, kind: u16) -> usize
     }
 }
 
-// A number's digits.
+// A number's digits, by way of fixed memory.
 fn put_decimal(out: &mut [u8], at: usize, n: u32) -> usize
     requires { at + 10 ≤ length out.old }
     ensures value { result ≡ at + length (decimal_of n) }

@@ -115,6 +115,7 @@ fn take<T: Word, const N: usize>(body: &[u8], numbers: &mut [T])
     }
 }
 
+// The number is a case's own, and no order elsewhere.
 fn order_of(number: u16) -> Order {
     if number == 0 { Order::High } else { Order::Low }
 }

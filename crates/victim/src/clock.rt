@@ -35,7 +35,8 @@ fn next_hand(h: usize, f: usize) -> usize
     if h + 1 < f { h + 1 } else { 0 }
 }
 
-// The sweep: from the hand on until it rests, and then one past. With no unpinned frame it would not end.
+// The sweep: from the hand on until it rests, and then one past. With no unpinned frame it would not end. It is a
+// loop that yields its victim by `break`, as the scope has it.
 fn sweep(bench: &mut Bench) -> usize
     requires { (sound_pool (pool_on bench.old) ≡ true) × (some_unpinned (pool_on bench.old) ≡ true) }
     ensures { Chose (pool_on bench.old) (swept_choice (pool_on bench.old)) (Some result) bench.new }
