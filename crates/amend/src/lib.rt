@@ -160,7 +160,7 @@ pub fn counts(bytes: &[u8], wish: Wish) -> Result<Sheet, Refusal>
     counts_of(&space[..bytes.len()])
 }
 
-// A size where it is above the last one and below the best so far; 0 is none.
+// A size where it is above the last one and below the best so far; 0 is none, as in `next_size`.
 fn nearer(last: u16, size: u16, best: u16) -> u16
     ensures { result ≡ nearer_of last size best }
 {

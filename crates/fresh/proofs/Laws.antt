@@ -11,7 +11,7 @@ use Rattle.trace.specs.Check.Checked.{Accepted}
 use Rattle.trace.specs.Check.{check_of, trace_of}
 use Rattle.trace.proofs.Accept.{accepted, accepted_range, counts_are}
 use Rattle.pool.specs.declared.Pool.{Pool}
-use Rattle.pool.specs.Pool.{fresh_pool, fresh_of}
+use Rattle.pool.specs.Pool.{Opened, fresh_pool, fresh_of}
 use Rattle.pool.specs.Sound.{sound_pool}
 use Rattle.pool.proofs.Opening.{fresh_sound}
 use Rattle.tally.specs.declared.Tally.{Tally}
@@ -36,17 +36,30 @@ may_begin_lem : (x : Settings) → in_range x ≡ true → may_begin (fresh_pool
 unfolding may_begin
 may_begin_lem x r = let s : sound_pool (fresh_pool x) ≡ true = rw (fresh_pool_lem x r) at (fresh_sound x) in rw (s, zero_within)
 
--- an accepted trace may be replayed from a fresh pool by its own settings
+-- an accepted trace may be replayed from a pool with no frame in use, by its own settings
 module _ (s : List ℕ) (h : Summary) (p : Pool) (t : Tally) (a : check_of s ≡ Accepted h) (x : p ≡ fresh_pool h.settings) (y : t ≡ zero_tally) where
   opened : p ≡ fresh_pool (trace_of s).settings
   opened = x ∙ ap (λ (v : Summary). fresh_pool v.settings) (accepted s h a).1
 
-  pub fresh_ready : Ready p t s h
-  fresh_ready = record { begins = rw (opened, y) (may_begin_lem (trace_of s).settings (accepted_range s h a)); accepted = a }
+  pub empty_ready : Ready p t s h
+  empty_ready = record { begins = rw (opened, y) (may_begin_lem (trace_of s).settings (accepted_range s h a)); accepted = a }
 
-  pub fresh_counts_are : (e : Ended) → e ≡ ended_of 0 p t (replay_of p t (trace_of s)) → e.tally ≡ fresh_counts (trace_of s)
+  pub empty_counts_are : (e : Ended) → e ≡ ended_of 0 p t (replay_of p t (trace_of s)) → e.tally ≡ fresh_counts (trace_of s)
   unfolding fresh_counts
-  fresh_counts_are e z = ap (λ (v : Ended). v.tally) z ∙ rw (opened, y)
+  empty_counts_are e z = ap (λ (v : Ended). v.tally) z ∙ rw (opened, y)
+
+-- and from what a fresh pool by its settings is, as it is opened
+module _ (s : List ℕ) (h : Summary) (o : Opened) (t : Tally) (a : check_of s ≡ Accepted h) (x : o ≡ fresh_of h.settings) (y : t ≡ zero_tally) where
+  opened_pool : o.pool ≡ fresh_pool h.settings
+  opened_pool =
+      let e = ap (λ (v : Summary). v.settings) (accepted s h a).1 in
+      ap (λ (v : Opened). v.pool) x ∙ fresh_pool_lem h.settings (rw (e) (accepted_range s h a))
+
+  pub fresh_ready : Ready o.pool t s h
+  fresh_ready = empty_ready s h o.pool t a opened_pool y
+
+  pub fresh_counts_are : (e : Ended) → e ≡ ended_of 0 o.pool t (replay_of o.pool t (trace_of s)) → e.tally ≡ fresh_counts (trace_of s)
+  fresh_counts_are = empty_counts_are s h o.pool t a opened_pool y
 
 -- with no record every count is 0
 pub none_counted : (s : List ℕ) (h : Summary) (t : Tally) → check_of s ≡ Accepted h → h.count ≡ 0 → t ≡ zero_tally → t ≡ fresh_counts (trace_of s)

@@ -74,7 +74,7 @@ fn export(rt: &HostRuntime, bytes: &[u8]) -> Result<(), Stop> {
     printed(rt, say(rt, front(&space, size)))
 }
 
-// A line of a quote, with so many frames.
+// A line of a quote, with so many frames, printed before the next is counted.
 fn put_size(
     text: &mut Text<'_, impl Print>,
     bytes: &[u8],
@@ -82,7 +82,8 @@ fn put_size(
     frames: u16,
 ) -> io::Result<()> {
     let numbers = amend::quote_line(bytes, wish, frames as u64);
-    writeln!(text, "{frames}{}", Spaced(&numbers))
+    writeln!(text, "{frames}{}", Spaced(&numbers))?;
+    text.flush()
 }
 
 fn quote_sizes(out: &impl Print, bytes: &[u8], wish: Wish, own: u16) -> io::Result<()> {
@@ -91,6 +92,7 @@ fn quote_sizes(out: &impl Print, bytes: &[u8], wish: Wish, own: u16) -> io::Resu
         text,
         "frames lru-misses lru-written clock-misses clock-written watt-misses watt-written"
     )?;
+    text.flush()?;
     let mut size = amend::next_size(own, 0);
     for _ in 0..QUOTE_LINES {
         if size == 0 {
@@ -99,7 +101,7 @@ fn quote_sizes(out: &impl Print, bytes: &[u8], wish: Wish, own: u16) -> io::Resu
         put_size(&mut text, bytes, wish, size)?;
         size = amend::next_size(own, size);
     }
-    text.flush()
+    Ok(())
 }
 
 fn quote(rt: &HostRuntime, bytes: &[u8], wish: Wish) -> Result<(), Stop> {

@@ -13,7 +13,7 @@ pub fn say(out: &impl Print, text: &[u8]) -> Result<()> {
     out.write_all(text)
 }
 
-// All that is said of a bad trace.
+// All that is said of a bad trace, by the refusal's number.
 pub fn say_refused(out: &impl Print, refusal: u32) -> Result<()> {
     println!(out; "trace refused {refusal}")
 }

@@ -14,8 +14,10 @@ use mir.Val.{bool_byte}
 use Rattle.search.specs.Search.{one_if}
 use Rattle.search.proofs.Least.{last_or_below}
 use Rattle.pool.specs.declared.Frame.{Frame}
+use Rattle.pool.specs.declared.Pool.{Pool}
 use Rattle.pool.specs.Pool.{empty_frame, frame_at, with_count, with_dirty}
-use Rattle.table.specs.Table.{table_length, guess_start, frame_in, frames_to, frames_in}
+use Rattle.table.specs.declared.Bench.{Bench}
+use Rattle.table.specs.Table.{table_length, guess_start, frame_in, frames_to, frames_in, pool_on}
 use Rattle.table.proofs.Cells.{place, stores, other_frame, other_field, own_field}
 
 pub frames_long : (t : List ℕ) (n : ℕ) → length (frames_to t n) ≡ n
@@ -160,3 +162,8 @@ module _ (all : List Frame) where
   pub filled_all : (l : List Frame) (i : ℕ) → length l ≡ 128 → length all ≡ 128 → i ≡ 128 → Filled all l i → l ≡ all
   unfolding Filled
   filled_all l i n m e f = ext_get_or empty_frame l all (n ∙ sym m) (λ j b. f j (omega arith))
+
+-- the head, the table and the logs of a pool, laid on a bench, are that pool
+pub of_parts : (p : Pool) (b : Bench) → b.head.settings ≡ p.settings → b.head.k ≡ p.k → b.head.hand ≡ p.hand → b.head.sampler ≡ p.sampler
+    → frames_in b.table ≡ p.frames → b.access ≡ p.access → b.write ≡ p.write → pool_on b ≡ p
+of_parts p b settings k hand sampler frames access write = rw (settings, k, hand, sampler, frames, access, write)

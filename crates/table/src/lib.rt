@@ -1,4 +1,4 @@
-// A pool's frames as one table of numbers that can be lent, which a struct cannot: field after field, so that a search goes through one field.
+// A pool's frames as one table of numbers, field after field, so that a search goes through one field, several frames at once.
 // Behind them it has room for guesses at where a page is, which no frame reads.
 #![tactic(auto)]
 

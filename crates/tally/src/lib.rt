@@ -106,7 +106,7 @@ pub fn raise(t: &mut Tally, row: Row)
     *t = next;
 }
 
-// From a tally by value to the lent one and back: whoever calls it makes no reference to a struct.
+// The same on a tally by value, as a loop has it.
 pub fn raised(t: Tally, row: Row) -> Tally
     requires { Countable t row }
     ensures { result ≡ counted_by t row }
@@ -116,7 +116,7 @@ pub fn raised(t: Tally, row: Row) -> Tally
     next
 }
 
-// The row of a refused record.
+// The row of a refused record. By a number, as the definition has it, whatever refusal that is.
 pub fn refused_row(r: u32) -> Row
     requires { r ≤ 100 }
     ensures { result ≡ refused_row r }
