@@ -8,12 +8,15 @@ use lib.Seq.{sets}
 use borrow.Author.Tests.{leb-true, le-leb, eq-eqb}
 use mathlib.Core.Bool.{false}
 use lib.Dec.{leb}
+use Rattle.std.specs.Prelude.{Result}
 use Rattle.word.specs.declared.Order.{Order}
 use Rattle.word.proofs.Laws.{Bytes, sets_front}
 use Rattle.refusal.specs.Refusals.{demand, no_room, out_of_range}
+use Rattle.refusal.specs.declared.Refusal.{Refusal}
+use Rattle.refusal.specs.Numbers.{answer_of}
 use Rattle.settings.specs.Settings.{the_fields, settings_numbers}
 use Rattle.trace.specs.Layout.{record_limit}
-use Rattle.refusal.proofs.Laws.{met, neither}
+use Rattle.refusal.proofs.Laws.{met, neither, answer_one}
 use Rattle.trace.specs.Check.{refusal_of, trace_of}
 use Rattle.trace.proofs.Whole.{proper, encode_trace, decode_whole}
 use Rattle.scribe.specs.Write.{write_refusal}
@@ -24,9 +27,11 @@ use Rattle.text.specs.Text.Exported.{Written as Exported-as-Written}
 use Rattle.text.specs.Text.{lines_in, pages_in, kinds_in, line_room, text_of, exported, export_refusal, ExportedInto, ReadsAs}
 use Rattle.text.proofs.Storing.{text_long}
 use Rattle.text.proofs.Round.{text_back}
+use Rattle.amend.specs.declared.Fault.{Fault}
 use Rattle.amend.specs.Amend.{Imported}
 use Rattle.amend.specs.Amend.Imported.{Written}
-use Rattle.amend.specs.Amend.{wished_trace, set_refusal, SetInto, trace_in, ImportedInto, ImportsBack}
+use Rattle.amend.specs.Amend.{wished_trace, set_refusal, SetInto, trace_in, imported_by, ImportedInto, ImportsBack}
+use Rattle.amend.proofs.Laws.{imported_one}
 
 -- an export that is not refused stores the whole text, and it fits
 exported_whole : (r m : ℕ) (text : List ℕ) → Exported-as-Written m ≡ exported r text → (r ≡ 0) × (m ≡ length text)
@@ -72,6 +77,15 @@ set_one s w out a b out₁ out₂ x y = (x.answers ∙ sym y.answers, x.bytes_ho
 pub import_one : (text : List ℕ) (w : Wish) (order : Order) (out : List ℕ) (a b : Imported) (out₁ out₂ : List ℕ)
     → ImportedInto text w order out a out₁ → ImportedInto text w order out b out₂ → (a ≡ b) × (out₁ ≡ out₂)
 import_one text w order out a b out₁ out₂ x y = (x.answers ∙ sym y.answers, x.bytes_hold ∙ sym y.bytes_hold)
+
+-- and so are any two answers of the calls
+pub set_answer_one : (s : List ℕ) (w : Wish) (out : List ℕ) (a b : Result (Unit {0}) Refusal) (out₁ out₂ : List ℕ)
+    → SetInto s w out (answer_of a) out₁ → SetInto s w out (answer_of b) out₂ → (a ≡ b) × (out₁ ≡ out₂)
+set_answer_one s w out a b out₁ out₂ x y = let e = set_one s w out (answer_of a) (answer_of b) out₁ out₂ x y in (answer_one a b e.0, e.1)
+
+pub import_answer_one : (text : List ℕ) (w : Wish) (order : Order) (out : List ℕ) (a b : Result ℕ Fault) (out₁ out₂ : List ℕ)
+    → ImportedInto text w order out (imported_by a) out₁ → ImportedInto text w order out (imported_by b) out₂ → (a ≡ b) × (out₁ ≡ out₂)
+import_answer_one text w order out a b out₁ out₂ x y = let e = import_one text w order out (imported_by a) (imported_by b) out₁ out₂ x y in (imported_one a b e.0, e.1)
 
 -- a number too great for its field is refused 8 for every trace that is accepted, with room for it
 pub too_great : (s : List ℕ) (w : Wish) (room : ℕ) → Bytes s → refusal_of s ≡ 0 → fit_fields the_fields (chosen_from w 0 (settings_numbers the_fields (trace_of s).settings)) ≡ false

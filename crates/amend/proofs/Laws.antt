@@ -1,16 +1,18 @@
 -- What setting, importing and counting come to, one law a way.
-use mathlib.Core.Path.{◌≡◌, refl, sym, subst, ◌∙◌}
+use mathlib.Core.Path.{◌≡◌, refl, sym, ap, subst, ◌∙◌}
 use mathlib.Core.List.{List}
 use Prim.Native.Nat.{ℕ, zero, suc, ◌≤◌, ◌<◌}
 use native.Mathlib.Omega.{arith}
 use lib.ListN.{length, take}
 use lib.Seq.{sets}
 use borrow.Author.Tests.{lt-leb}
+use Rattle.std.specs.Prelude.{Result, Ok, Err}
 use Rattle.word.specs.declared.Order.{Order}
 use Rattle.word.proofs.Laws.{Bytes, sets_front}
 use Rattle.refusal.specs.Refusals.{too_many}
+use Rattle.refusal.specs.declared.Refusal.{Refusal}
 use Rattle.settings.specs.declared.Settings.{Settings}
-use Rattle.refusal.proofs.Laws.{or_first, neither, unstored}
+use Rattle.refusal.proofs.Laws.{or_first, neither, unstored, number_some, number_injective}
 use Rattle.trace.specs.declared.Summary.{Summary}
 use Rattle.trace.specs.Layout.{Trace, trace_from, file_length, record_limit}
 use Rattle.trace.specs.Encode.{encode}
@@ -26,8 +28,12 @@ use Rattle.wish.specs.declared.Wish.{Wish}
 use Rattle.wish.specs.Wish.{wished_for, wished_settings, usual_settings}
 use Rattle.text.specs.Text.{lines_in, first_bad, pages_in, kinds_in}
 use Rattle.text.proofs.Filling.{numbers_many}
+use Rattle.amend.specs.declared.Fault.{Fault}
+use Rattle.amend.specs.declared.Fault.TheVariants.{BadLine as At-line, Refused as By-refusal}
+use Rattle.amend.specs.declared.Sheet.{Sheet}
+use Rattle.amend.specs.declared.Uncounted.{Uncounted}
 use Rattle.amend.specs.Amend.Imported.{BadLine, Refused, Written}
-use Rattle.amend.specs.Amend.{wished_trace, set_refusal, SetInto, SetsBack, trace_in, ImportedInto, ImportsBack, not_counted, sheet_by, sheet_of, sheet_with}
+use Rattle.amend.specs.Amend.{wished_trace, set_refusal, SetInto, SetsBack, trace_in, imported_by, ImportedInto, ImportsBack, not_counted, counted_by, sheet_by, sheet_of, sheet_with}
 use Rattle.amend.specs.Amend.{Counted}
 use Rattle.amend.specs.Quote.{quote_tally}
 
@@ -111,7 +117,28 @@ module _ (text : List ℕ) (w : Wish) (order : Order) (out : List ℕ) where
         let same : out ≡ out' = unstored r (encode (trace_in text w order)) out ne ∙ rw y.answers (sym y.bytes_hold) in
         subst (λ (o : List ℕ). ImportedInto text w order out (Refused r) o × ImportsBack text w order (Refused r) o) same (import_refused r y.answers ne)
 
+-- two answers that are read alike are the same
+pub imported_one : (a b : Result ℕ Fault) → imported_by a ≡ imported_by b → a ≡ b
+imported_one (Ok n) (Ok m) e = cc
+imported_one (Ok n) (Err (At-line m)) e = cc
+imported_one (Ok n) (Err (By-refusal q)) e = cc
+imported_one (Err (At-line n)) (Ok m) e = cc
+imported_one (Err (At-line n)) (Err (At-line m)) e = cc
+imported_one (Err (At-line n)) (Err (By-refusal q)) e = cc
+imported_one (Err (By-refusal r)) (Ok m) e = cc
+imported_one (Err (By-refusal r)) (Err (At-line m)) e = cc
+imported_one (Err (By-refusal r)) (Err (By-refusal q)) e = ap (λ (x : Refusal). Err (By-refusal x)) (number_injective r q (cc))
+
 -- ---- the sheet's numbers
+
+-- two sheets that are read alike are the same, and so is what was handed back in their place
+pub counted_one : (a b : Result Sheet Uncounted) → counted_by a ≡ counted_by b → a ≡ b
+counted_one (Ok x) (Ok y) e = λ i. Ok (record { settings = (e i).settings; count = (e i).count; tally = (e i).tally })
+counted_one (Ok x) (Err v) e = let n = number_some v.refusal in let z = ap (λ (k : Counted). k.refusal) e in absurd (omega arith)
+counted_one (Err u) (Ok y) e = let n = number_some u.refusal in let z = ap (λ (k : Counted). k.refusal) e in absurd (omega arith)
+counted_one (Err u) (Err v) e =
+    let n = number_injective u.refusal v.refusal (ap (λ (k : Counted). k.refusal) e) in
+    λ i. Err (record { refusal = n i; sheet = record { settings = (e i).settings; count = (e i).count; tally = (e i).tally } })
 
 module _ (s : List ℕ) where
   pub counted_whole : (h : Summary) (t : Tally) → check_of s ≡ Accepted h → t ≡ fresh_counts (trace_of s)

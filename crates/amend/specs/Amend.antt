@@ -20,6 +20,7 @@ use Rattle.text.specs.Text.{lines_in, first_bad, pages_in, kinds_in}
 use Rattle.amend.specs.declared.Fault.{Fault}
 use Rattle.amend.specs.declared.Fault.TheVariants.{BadLine as At-line, Refused as By-refusal}
 use Rattle.amend.specs.declared.Sheet.{Sheet}
+use Rattle.amend.specs.declared.Uncounted.{Uncounted}
 
 -- the same records with the settings wished for
 abbrev pub wished_trace : Wish → Trace → Trace
@@ -80,10 +81,18 @@ pub record Counted : Type 0 where
 abbrev pub not_counted : ℕ → Counted
 not_counted r = record { refusal = r; settings = one_frame; count = 0; tally = zero_tally }
 
+-- what is handed back then
+abbrev pub refused_sheet : Refusal → Uncounted
+refused_sheet r = record { refusal = r; sheet = record { settings = one_frame; count = 0; tally = zero_tally } }
+
+-- a sheet, beside a refusal or 0
+abbrev pub counted : ℕ → Sheet → Counted
+counted r sheet = record { refusal = r; settings = sheet.settings; count = sheet.count; tally = sheet.tally }
+
 -- what a call answered
-abbrev pub counted_by : Result Sheet Refusal → Counted
-counted_by (Ok sheet) = record { refusal = 0; settings = sheet.settings; count = sheet.count; tally = sheet.tally }
-counted_by (Err refusal) = not_counted (number_of refusal)
+abbrev pub counted_by : Result Sheet Uncounted → Counted
+counted_by (Ok sheet) = counted 0 sheet
+counted_by (Err u) = counted (number_of u.refusal) u.sheet
 
 -- the numbers of a sheet, from a fresh pool
 unfoldable pub sheet_by : ℕ → Trace → Counted

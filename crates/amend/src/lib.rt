@@ -8,7 +8,7 @@ ghost use Rattle.text.specs.Text.{lines_in, first_bad, pages_in, kinds_in};
 ghost use Rattle.scribe.specs.Write.{WrittenTo, ReadsBack};
 ghost use Rattle.refusal.specs.Numbers.{answer_of};
 ghost use Rattle.amend.specs.declared.Fault.TheVariants.{Refused};
-ghost use Rattle.amend.specs.Amend.{SetInto, SetsBack, imported_by, ImportedInto, ImportsBack, counted_by, sheet_of, sheet_with};
+ghost use Rattle.amend.specs.Amend.{SetInto, SetsBack, imported_by, ImportedInto, ImportsBack, refused_sheet, counted_by, sheet_of, sheet_with};
 ghost use Rattle.amend.specs.Quote.{nearer_of, next_size, quote_tally, quote_line};
 
 use refusal::Refusal;
@@ -39,6 +39,29 @@ pub struct Sheet {
     pub settings: Settings,
     pub count: u32,
     pub tally: Tally,
+}
+
+// Why nothing was counted, and the sheet that is handed back.
+#[derive(Clone, Copy, Debug, PartialEq, Eq)]
+pub struct Uncounted {
+    pub refusal: Refusal,
+    pub sheet: Sheet,
+}
+
+// Nothing is counted of what is refused: the least settings, no record, no count.
+impl From<Refusal> for Uncounted {
+    ghost from_gives = { λ refusal handed. handed ≡ refused_sheet refusal };
+
+    fn from(refusal: Refusal) -> Uncounted {
+        Uncounted {
+            refusal,
+            sheet: Sheet {
+                settings: settings::one_frame(),
+                count: 0,
+                tally: tally::zero(),
+            },
+        }
+    }
 }
 
 // Misses and pages written for each rule.
@@ -140,7 +163,7 @@ pub fn import(text: &[u8], wish: Wish, order: Order, out: &mut [u8]) -> Result<u
 }
 
 // What the sheet of a trace says.
-pub fn counts_of(bytes: &[u8]) -> Result<Sheet, Refusal>
+pub fn counts_of(bytes: &[u8]) -> Result<Sheet, Uncounted>
     ensures { counted_by result ≡ sheet_of bytes.now }
 {
     let trace = Trace::of(bytes)?;
@@ -152,7 +175,7 @@ pub fn counts_of(bytes: &[u8]) -> Result<Sheet, Refusal>
 }
 
 // What its sheet says where it is taken as if its header said otherwise.
-pub fn counts(bytes: &[u8], wish: Wish) -> Result<Sheet, Refusal>
+pub fn counts(bytes: &[u8], wish: Wish) -> Result<Sheet, Uncounted>
     ensures { counted_by result ≡ sheet_with bytes.now wish }
 {
     let mut space = [0u8; trace::BYTE_LIMIT];
@@ -198,7 +221,7 @@ fn quote_tally(bytes: &[u8], wish: Wish, rule: u64, frames: u64) -> Tally
     let sized = wish::with(wish, wish::FRAMES, frames);
     match counts(bytes, wish::with(sized, wish::RULE, rule)) {
         Ok(sheet) => sheet.tally,
-        Err(_) => tally::zero(),
+        Err(none) => none.sheet.tally,
     }
 }
 

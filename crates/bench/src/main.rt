@@ -6,7 +6,7 @@ use std::io::Result;
 fn bench(out: &impl Print, bytes: &[u8]) -> Result<()> {
     match amend::counts_of(bytes) {
         Ok(sheet) => listing::say_sheet(out, sheet.settings, sheet.count, sheet.tally),
-        Err(refusal) => lines::say_refused(out, u32::from(refusal)),
+        Err(none) => lines::say_refused(out, u32::from(none.refusal)),
     }
 }
 

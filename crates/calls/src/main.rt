@@ -113,9 +113,9 @@ fn try_read(text: &mut Text<'_, impl Print>, image: &[u8]) -> Result<()> {
             writeln!(text, "read 0")?;
             dump::put_pool(text, &pool)
         }
-        Err(refusal) => {
-            writeln!(text, "read {}", u32::from(refusal))?;
-            dump::put_pool(text, &pool::empty(settings::one_frame()))
+        Err(none) => {
+            writeln!(text, "read {}", u32::from(none.refusal))?;
+            dump::put_pool(text, &none.pool)
         }
     }
 }
@@ -133,12 +133,12 @@ fn try_step(text: &mut Text<'_, impl Print>, pool: Pool, case: &Case) -> Result<
     let list = &mut lent[..case.places.min(LIST_ROOM)];
     let (mut pool, mut tally) = (pool, case.tally);
     let stepped = replay::step(&mut pool, &mut tally, case.page, case.kind, list);
-    let answer = refusal::answer_of(stepped.map(|_| ()));
+    let (answer, row) = match stepped {
+        Ok(row) => (0, row),
+        Err(none) => (u32::from(none.refusal), none.row),
+    };
     writeln!(text, "step {answer}")?;
-    dump::put_row(
-        text,
-        stepped.unwrap_or_else(|r| tally::refused_row(u32::from(r))),
-    )?;
+    dump::put_row(text, row)?;
     writeln!(text, "list{}", Spaced(list))?;
     dump::put_pool(text, &pool)?;
     dump::put_tally(text, tally)
@@ -187,7 +187,7 @@ fn try_held(
 ) -> Result<()> {
     let pool = match image::held(image) {
         Ok(pool) => pool,
-        Err(refusal) => return writeln!(text, "held {}", u32::from(refusal)),
+        Err(none) => return writeln!(text, "held {}", u32::from(none.refusal)),
     };
     match call {
         PoolCall::Write => try_write(text, pool, case),

@@ -11,14 +11,14 @@ use lib.Dec.{eqb, leb}
 use borrow.Author.Tests.{leb-true, leb-false, le-leb, lt-leb, eqb-false, ne_eqb}
 use Rattle.std.specs.Prelude.{Option, Some, None}
 use Rattle.search.specs.Search.{pick}
-use Rattle.refusal.proofs.Laws.{unstored}
+use Rattle.refusal.proofs.Laws.{unstored, answer_one}
 use Rattle.refusal.specs.Refusals.{stored, demand, out_of_range, no_reference_left, not_pinned, pins_full, not_sound}
 use Rattle.settings.specs.declared.Settings.{Settings}
 use Rattle.settings.specs.Settings.{in_range, one_frame}
 use Rattle.settings.proofs.Laws.{ranges}
 use Rattle.trace.specs.Layout.{Trace, record_in}
 use Rattle.trace.specs.Check.{trace_of, number_of_answer, read_refusal, ReadInto, Checked}
-use Rattle.trace.proofs.Laws.{number_is}
+use Rattle.trace.proofs.Laws.{number_is, checked_one}
 use Rattle.trace.proofs.Accept.{number_checked}
 use Rattle.trace.proofs.Reading.{read_one}
 use Rattle.trace.specs.Encode.{encode}
@@ -28,6 +28,7 @@ use Rattle.pool.specs.declared.Pool.{Pool}
 use Rattle.limit.specs.Limits.{reference_limit}
 use Rattle.pool.specs.Pool.{frame_at, opened, fresh_pool, fresh_of}
 use Rattle.pool.specs.Sound.{sound_pool, pool_refusal}
+use Rattle.pool.proofs.Laws.{opened_one}
 use Rattle.pool.proofs.Sound.{Sound, told, made}
 use Rattle.pool.proofs.Sizes.{Sized}
 use Rattle.pool.proofs.Opening.{fresh_sound, empty_sound}
@@ -45,7 +46,7 @@ use Rattle.effect.proofs.Answers.{EveryPinned, limit_refuses, hit_answers, refus
 use Rattle.replay.specs.declared.Ended.{Ended}
 use Rattle.replay.specs.Replay.{Played, replay_to, replay_of}
 use Rattle.replay.specs.Calls.{Stepped, step_refusal, stepped_of, StepInto, counts_refusal, ended_of, counts_of, ReplayInto}
-use Rattle.replay.proofs.Laws.{doing, replay_suc}
+use Rattle.replay.proofs.Laws.{stepped_one, ended_one, doing, replay_suc}
 use Rattle.replay.proofs.Begins.{begins_sound, begins_within}
 use Rattle.replay.proofs.Going.{going}
 use Rattle.replay.proofs.Stepping.{step_met}
@@ -336,6 +337,7 @@ replay_shown p t s stored rows written r rows' written' x z i l =
 pub first_demand : FirstDemand
 first_demand = record {
   calls = calls;
+  answers = record { none = answer_one; checked = checked_one; opened = opened_one; stepped = stepped_one; ended = ended_one };
   record_alone = record { refused = shown; frame = λ p page kind s. frame_exactly p page (told p s) kind; used = λ p i s. pinned_used p i (told p s) };
   step = step_shown;
   replay = replay_shown;

@@ -1,16 +1,21 @@
 -- The first demand: "Any bytes, settings or pool state may be handed in. Every call ends with its one answer or the numbered refusal that fits. A refused
 -- call changes no pool and no lent byte; a refused record inside a replay shows only in its row and the refused count. Within the reference limit a
 -- missed page is refused for want of a frame exactly when every frame is pinned."
-use Rattle.std.specs.Prelude.{ℕ, suc, ◌+◌, ◌≤◌, ◌<◌, ◌≡◌, true, List, [], ◌↔◌, length, None}
+use Rattle.std.specs.Prelude.{ℕ, suc, ◌+◌, ◌≤◌, ◌<◌, ◌≡◌, true, List, [], ◌↔◌, length, None, Result}
+use Rattle.refusal.specs.declared.Refusal.{Refusal}
+use Rattle.refusal.specs.Numbers.{answer_of}
 use Rattle.refusal.specs.Refusals.{demand, out_of_range, no_frame}
 use Rattle.settings.specs.declared.Settings.{Settings}
 use Rattle.settings.specs.Settings.{in_range, one_frame}
 use Rattle.trace.specs.Layout.{Trace, record_in}
+use Rattle.trace.specs.declared.Summary.{Summary}
+use Rattle.trace.specs.Answer.{checked_by}
 use Rattle.trace.specs.Check.{refusal_of, trace_of, number_of_answer, check_of, read_refusal, ReadInto, Checked}
 use Rattle.scribe.specs.Write.{write_refusal, WrittenTo, convert_refusal, ConvertedTo}
 use Rattle.pool.specs.declared.Pool.{Pool}
+use Rattle.pool.specs.declared.Unopened.{Unopened}
 use Rattle.limit.specs.Limits.{reference_limit}
-use Rattle.pool.specs.Pool.{frame_at, fresh_pool, fresh_of}
+use Rattle.pool.specs.Pool.{frame_at, fresh_pool, opened_by, fresh_of}
 use Rattle.pool.specs.Sound.{sound_pool, pool_refusal}
 use Rattle.word.specs.declared.Order.{Order}
 use Rattle.image.specs.Image.{held_refusal, held_of, image_refusal, image_of, saving_refusal, SavedTo}
@@ -21,8 +26,9 @@ use Rattle.tally.specs.Rows.{refused_by, is_refused}
 use Rattle.tally.specs.Tally.{counted_by}
 use Rattle.effect.specs.Record.{record_of}
 use Rattle.replay.specs.declared.Ended.{Ended}
+use Rattle.replay.specs.declared.Unstepped.{Unstepped}
 use Rattle.replay.specs.Replay.{replay_to}
-use Rattle.replay.specs.Calls.{Stepped, step_refusal, StepInto, counts_refusal, counts_of, replay_refusal, ReplayInto}
+use Rattle.replay.specs.Calls.{Stepped, step_refusal, stepped_by, StepInto, counts_refusal, ended_as, counts_of, replay_refusal, ReplayInto}
 use Rattle.curve.specs.Curve.{sizes, curve_refusal, CurveInto}
 use Rattle.host.specs.Counts.{host_refusal, CountsInto}
 use Rattle.host.specs.Curve.{curve_length, CurveBytesInto}
@@ -80,6 +86,21 @@ pub record Calls : Type 0 where
   -- `pool::check`: 0 exactly for a sound pool
   pub pool_check : (p : Pool) → (pool_refusal p ≡ 0) ↔ (sound_pool p ≡ true)
 
+-- ---- answers
+
+-- what a contract reads off an answer, and off a pool and a tally that were lent, tells every two apart: its one outcome is one answer of the call
+pub record Answers : Type 0 where
+  -- of a call that answers nothing but a refusal
+  pub none : (a b : Result (Unit {0}) Refusal) → answer_of a ≡ answer_of b → a ≡ b
+  -- `trace::check`, `trace::read`
+  pub checked : (a b : Result Summary Refusal) → checked_by a ≡ checked_by b → a ≡ b
+  -- `pool::fresh`, `image::held`, `image::read`
+  pub opened : (a b : Result Pool Unopened) → opened_by a ≡ opened_by b → a ≡ b
+  -- `replay::step`
+  pub stepped : (a b : Result Row Unstepped) (p q : Pool) (t u : Tally) → stepped_by a p t ≡ stepped_by b q u → (a ≡ b) × (p ≡ q) × (t ≡ u)
+  -- `replay::replay`, `replay::counts`
+  pub ended : (a b : Result (Unit {0}) Refusal) (p q : Pool) (t u : Tally) → ended_as (answer_of a) p t ≡ ended_as (answer_of b) q u → (a ≡ b) × (p ≡ q) × (t ≡ u)
+
 -- ---- records
 
 -- the tally with one refused record more, and every other count as it was
@@ -126,6 +147,7 @@ pub record InReplay (p : Pool) (t : Tally) (trace : Trace) (rows' : List ℕ) (i
 -- the demand; what the types say of a pool and of bytes is given as `Stored`
 pub record FirstDemand : Type 0 where
   pub calls : Calls
+  pub answers : Answers
   pub record_alone : OnPool
   pub step : (p : Pool) (t : Tally) (page kind : ℕ) (list : List ℕ) (r : Stepped) (list' : List ℕ)
       → StepInto p t page kind list r list' → r.refusal ≡ 0 → InStep p t page kind list r list'

@@ -211,9 +211,12 @@ impl<'a> Place<'a> {
         }
     }
 
+    // An input that cannot be read has failed, whatever its error: `Stop::Unread` is of what is written.
     fn read<'s>(&self, rt: &HostRuntime, space: &'s mut [u8]) -> Result<&'s [u8], Stop> {
-        self.fill(rt, space)
-            .map_err(|error| failed(rt, self.input_name(), &error))
+        self.fill(rt, space).map_err(|error| {
+            failed(rt, self.input_name(), &error);
+            Stop::Failed
+        })
     }
 
     // Standard output is not opened again, so that what is written to it before and after stays in its place.

@@ -11,8 +11,9 @@ use Rattle.trace.specs.Check.Checked.{Accepted}
 use Rattle.trace.specs.Check.{check_of, trace_of}
 use Rattle.trace.proofs.Accept.{accepted, accepted_range, counts_are}
 use Rattle.pool.specs.declared.Pool.{Pool}
-use Rattle.pool.specs.Pool.{Opened, fresh_pool, fresh_of}
+use Rattle.pool.specs.Pool.{Opened, opened, fresh_pool, fresh_of}
 use Rattle.pool.specs.Sound.{sound_pool}
+use Rattle.pool.proofs.Laws.{fresh_whole}
 use Rattle.pool.proofs.Opening.{fresh_sound}
 use Rattle.tally.specs.declared.Tally.{Tally}
 use Rattle.tally.specs.Tally.{zero_tally, tally_within}
@@ -38,22 +39,27 @@ may_begin_lem x r = let s : sound_pool (fresh_pool x) ≡ true = rw (fresh_pool_
 
 -- an accepted trace may be replayed from a pool with no frame in use, by its own settings
 module _ (s : List ℕ) (h : Summary) (p : Pool) (t : Tally) (a : check_of s ≡ Accepted h) (x : p ≡ fresh_pool h.settings) (y : t ≡ zero_tally) where
-  opened : p ≡ fresh_pool (trace_of s).settings
-  opened = x ∙ ap (λ (v : Summary). fresh_pool v.settings) (accepted s h a).1
+  own_pool : p ≡ fresh_pool (trace_of s).settings
+  own_pool = x ∙ ap (λ (v : Summary). fresh_pool v.settings) (accepted s h a).1
 
   pub empty_ready : Ready p t s h
-  empty_ready = record { begins = rw (opened, y) (may_begin_lem (trace_of s).settings (accepted_range s h a)); accepted = a }
+  empty_ready = record { begins = rw (own_pool, y) (may_begin_lem (trace_of s).settings (accepted_range s h a)); accepted = a }
 
   pub empty_counts_are : (e : Ended) → e ≡ ended_of 0 p t (replay_of p t (trace_of s)) → e.tally ≡ fresh_counts (trace_of s)
   unfolding fresh_counts
-  empty_counts_are e z = ap (λ (v : Ended). v.tally) z ∙ rw (opened, y)
+  empty_counts_are e z = ap (λ (v : Ended). v.tally) z ∙ rw (own_pool, y)
+
+own_range : (s : List ℕ) (h : Summary) → check_of s ≡ Accepted h → in_range h.settings ≡ true
+own_range s h a = let e = ap (λ (v : Summary). v.settings) (accepted s h a).1 in rw (e) (accepted_range s h a)
+
+-- such a pool is what a fresh pool by these settings is opened as
+pub empty_opened : (s : List ℕ) (h : Summary) (p : Pool) → check_of s ≡ Accepted h → p ≡ fresh_pool h.settings → opened 0 p ≡ fresh_of h.settings
+empty_opened s h p a = fresh_whole h.settings p (own_range s h a)
 
 -- and from what a fresh pool by its settings is, as it is opened
 module _ (s : List ℕ) (h : Summary) (o : Opened) (t : Tally) (a : check_of s ≡ Accepted h) (x : o ≡ fresh_of h.settings) (y : t ≡ zero_tally) where
   opened_pool : o.pool ≡ fresh_pool h.settings
-  opened_pool =
-      let e = ap (λ (v : Summary). v.settings) (accepted s h a).1 in
-      ap (λ (v : Opened). v.pool) x ∙ fresh_pool_lem h.settings (rw (e) (accepted_range s h a))
+  opened_pool = ap (λ (v : Opened). v.pool) x ∙ fresh_pool_lem h.settings (own_range s h a)
 
   pub fresh_ready : Ready o.pool t s h
   fresh_ready = empty_ready s h o.pool t a opened_pool y

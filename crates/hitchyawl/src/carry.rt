@@ -77,7 +77,7 @@ fn replay_set(rt: &HostRuntime, request: &Request, pool: Pool, bytes: &[u8]) -> 
 fn read_pool(rt: &HostRuntime, from: Option<usize>) -> Result<Pool, Stop> {
     let mut space = zeros::<INPUT_SPACE>();
     let opened = image::read(files::read_whole(rt, from, &mut space)?);
-    opened.map_err(|refusal| refused(rt, lines::say_image_refused(rt, u32::from(refusal))))
+    opened.map_err(|none| refused(rt, lines::say_image_refused(rt, u32::from(none.refusal))))
 }
 
 // The pool of the image that is named, if one is.

@@ -105,7 +105,7 @@ fn quote_sizes(out: &impl Print, bytes: &[u8], wish: Wish, own: u16) -> io::Resu
 }
 
 fn quote(rt: &HostRuntime, bytes: &[u8], wish: Wish) -> Result<(), Stop> {
-    let sheet = granted(rt, amend::counts(bytes, wish))?;
+    let sheet = granted(rt, amend::counts(bytes, wish).map_err(|none| none.refusal))?;
     printed(rt, quote_sizes(rt, bytes, wish, sheet.settings.frames))
 }
 

@@ -13,7 +13,7 @@ ghost use Rattle.image.specs.Layout.{image_header, image_length, used_at, pool_t
 ghost use Rattle.image.specs.Image.{layout_refusal, header_zeros, entry_zero, entry_held, content_refusal, held_refusal_in, held_refusal, order_of, pool_of, held_of, image_of, saving_refusal, SavedTo};
 
 use entry::ENTRY_LENGTH;
-use pool::{Frame, Pool};
+use pool::{Frame, Pool, Unopened};
 use refusal::Refusal;
 use word::{Order, Word};
 
@@ -155,8 +155,8 @@ fn pool_to(bytes: &[u8], order: Order, used: usize) -> Pool
     }
 }
 
-// The pool that an image holds, sound or not.
-pub fn held(bytes: &[u8]) -> Result<Pool, Refusal>
+// The pool that an image holds, sound or not; where it is refused, a pool of one frame.
+pub fn held(bytes: &[u8]) -> Result<Pool, Unopened>
     ensures { opened_by result ≡ held_of bytes.now }
 {
     check_held(bytes)?;
@@ -165,8 +165,8 @@ pub fn held(bytes: &[u8]) -> Result<Pool, Refusal>
     Ok(pool_to(bytes, order, used))
 }
 
-// The sound pool that an image holds.
-pub fn read(bytes: &[u8]) -> Result<Pool, Refusal>
+// The sound pool that an image holds; where it is refused, a pool of one frame.
+pub fn read(bytes: &[u8]) -> Result<Pool, Unopened>
     ensures { opened_by result ≡ image_of bytes.now }
 {
     let whole = held(bytes)?;

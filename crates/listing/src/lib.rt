@@ -26,6 +26,16 @@ const ROWS: usize = 4 * trace::RECORD_LIMIT;
 // A page for each of its records and for each of 128 dirty frames.
 const WRITTEN: usize = trace::RECORD_LIMIT + 128;
 
+// The names of the six counts, in the tally's order.
+const COUNT_NAMES: [&str; tally::COUNTS] = [
+    "hits",
+    "misses",
+    "evictions",
+    "batches",
+    "written",
+    "refused",
+];
+
 // How many records a trace has; a bad one none.
 fn count_of(bytes: &[u8]) -> u32 {
     trace::check(bytes).map_or(0, |summary| summary.count)
@@ -34,7 +44,7 @@ fn count_of(bytes: &[u8]) -> u32 {
 fn fresh_by(settings: Settings) -> Pool
     ensures { result ≡ (fresh_of settings).pool }
 {
-    pool::fresh(settings).unwrap_or_else(|_| pool::empty(settings::one_frame()))
+    pool::fresh(settings).unwrap_or_else(|none| none.pool)
 }
 
 // A fresh pool by a trace's settings. For a bad trace any pool will do: a replay refuses the trace before it looks at the
@@ -119,13 +129,12 @@ fn put_policy(text: &mut Text<'_, impl Print>, rule: u16) -> io::Result<()> {
     writeln!(text, "policy {}", victim::name_of(rule))
 }
 
+// The counts as the tally lists them, each with its name.
 fn put_counts(text: &mut Text<'_, impl Print>, t: Tally) -> io::Result<()> {
-    writeln!(text, "hits {}", t.hits)?;
-    writeln!(text, "misses {}", t.misses)?;
-    writeln!(text, "evictions {}", t.evictions)?;
-    writeln!(text, "batches {}", t.batches)?;
-    writeln!(text, "written {}", t.written)?;
-    writeln!(text, "refused {}", t.refused)
+    for (name, count) in COUNT_NAMES.iter().zip(&tally::numbers(t)) {
+        writeln!(text, "{name} {count}")?;
+    }
+    Ok(())
 }
 
 // The sheet of a replay to counts.
@@ -209,7 +218,7 @@ pub fn inspect_image(out: &impl Print, bytes: &[u8]) -> io::Result<Result<(), Re
 {
     match image::read(bytes) {
         Ok(pool) => say_image(out, image::order_of(bytes), &pool).map(|()| Ok(())),
-        Err(refusal) => say_image_refused(out, u32::from(refusal)).map(|()| Err(refusal)),
+        Err(none) => { say_image_refused(out, u32::from(none.refusal)).map(|()| Err(none.refusal)) }
     }
 }
 

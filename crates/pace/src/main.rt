@@ -20,7 +20,7 @@ fn turn(bytes: &mut [u8], out: &mut [u8], i: u32) -> u32
     u32::put(bytes, 56, Order::Low, i);
     match image::read(bytes) {
         Ok(pool) => answer_of(image::write(pool, Order::Low, out)),
-        Err(refusal) => u32::from(refusal),
+        Err(none) => u32::from(none.refusal),
     }
 }
 

@@ -8,13 +8,16 @@ use native.Mathlib.Nat.{zero-add}
 use lib.ListN.{length, get_or, take, drop, length-drop}
 use lib.Seq.{length-take-le, get_or-take, get_or-drop}
 use lib.Dec.{leb}
+use Rattle.std.specs.Prelude.{Result, Ok, Err}
 use Rattle.search.specs.Search.{every_below}
 use Rattle.refusal.specs.Refusals.{out_of_range}
+use Rattle.refusal.proofs.Laws.{number_some, number_injective}
 use Rattle.settings.specs.declared.Settings.{Settings}
 use Rattle.settings.specs.Settings.{in_range, one_frame}
 use Rattle.pool.specs.declared.Frame.{Frame}
 use Rattle.pool.specs.declared.Pool.{Pool}
-use Rattle.pool.specs.Pool.{empty_frame, frame_at, fresh_pool, opened, fresh_of}
+use Rattle.pool.specs.declared.Unopened.{Unopened}
+use Rattle.pool.specs.Pool.{empty_frame, frame_at, fresh_pool, Opened, opened, opened_by, fresh_of}
 use Rattle.pool.specs.Sound.{place_sound, place_at, sound_log}
 use Rattle.pool.specs.ForCode.{pair_sound, pair_at, pairs_sound}
 use Rattle.pool.proofs.Listed.{every_same}
@@ -27,6 +30,15 @@ fresh_whole s p e d = rw (e, d)
 pub fresh_small : (s : Settings) → in_range s ≡ false → opened out_of_range (fresh_pool one_frame) ≡ fresh_of s
 unfolding fresh_of
 fresh_small s e = rw e
+
+-- two answers that are read alike are the same
+pub opened_one : (a b : Result Pool Unopened) → opened_by a ≡ opened_by b → a ≡ b
+opened_one (Ok p) (Ok q) e = ap (λ (o : Opened). Ok o.pool) e
+opened_one (Ok p) (Err v) e = let n = number_some v.refusal in let z = ap (λ (o : Opened). o.refusal) e in absurd (omega arith)
+opened_one (Err u) (Ok q) e = let n = number_some u.refusal in let z = ap (λ (o : Opened). o.refusal) e in absurd (omega arith)
+opened_one (Err u) (Err v) e =
+    let n = number_injective u.refusal v.refusal (ap (λ (o : Opened). o.refusal) e) in
+    λ i. Err (record { refusal = n i; pool = (e i).pool })
 
 -- a part of an array, place for place
 part_at : (a : List ℕ) (at room j : ℕ) → j < room → get_or (take room (drop at a)) j 0 ≡ get_or a (at + j) 0

@@ -8,6 +8,7 @@ use Rattle.settings.specs.declared.Settings.{Settings}
 use Rattle.settings.specs.Settings.{in_range, one_frame}
 use Rattle.pool.specs.declared.Frame.{Frame}
 use Rattle.pool.specs.declared.Pool.{Pool}
+use Rattle.pool.specs.declared.Unopened.{Unopened}
 
 -- up to 128 frames
 abbrev pub frame_room : ℕ
@@ -114,10 +115,14 @@ pub record Opened : Type 0 where
 abbrev pub opened : ℕ → Pool → Opened
 opened r p = record { refusal = r; pool = p }
 
--- what a call opened: a pool, or where it was refused the pool of one frame
-abbrev pub opened_by : Result Pool Refusal → Opened
+-- what a refused call hands back: the pool of one frame
+abbrev pub refused_pool : Refusal → Unopened
+refused_pool r = record { refusal = r; pool = fresh_pool one_frame }
+
+-- what a call opened: a pool, or the refusal and the pool that was handed back
+abbrev pub opened_by : Result Pool Unopened → Opened
 opened_by (Ok p) = opened 0 p
-opened_by (Err r) = opened (number_of r) (fresh_pool one_frame)
+opened_by (Err u) = opened (number_of u.refusal) u.pool
 
 -- a fresh pool refused by 8 comes back as that pool of one frame
 unfoldable pub fresh_of : Settings → Opened

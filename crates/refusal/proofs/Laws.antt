@@ -5,7 +5,7 @@ use mathlib.Core.List.{List, [], ◌∷◌}
 use Prim.Native.Nat.{ℕ, zero, suc, ◌<◌}
 use native.Mathlib.Omega.{arith}
 use lib.ListN.{get_or}
-use Rattle.std.specs.Prelude.{Result, Err}
+use Rattle.std.specs.Prelude.{Result, Ok, Err}
 use Rattle.std.specs.Result.{IsErr, IsErrAnd}
 use Rattle.std.proofs.lemmas.Result.{err_from_is_err_and}
 use Rattle.refusal.specs.declared.Refusal.{Refusal}
@@ -70,6 +70,13 @@ number_injective r q e = sym (named r) ∙ ap (λ (n : ℕ). get_or every n TooS
 pub answer_none : {T : Type 0} (a : Result T Refusal) (r : Refusal) → a ≡ Err r → answer_of a ≡ 0 → ⊥
 answer_none a r e h = let some = number_some r in let n : number_of r ≡ 0 = rw e at h in omega arith
 
--- a `?` passes on the refusal that it met
-pub passed_on : {T : Type 0} (a : Result T Refusal) (r : Refusal) → IsErr a × IsErrAnd a (λ e. e ≡ r) → a ≡ Err r
+-- two answers with one number are the same
+pub answer_one : (a b : Result (Unit {0}) Refusal) → answer_of a ≡ answer_of b → a ≡ b
+answer_one (Ok x) (Ok y) e = refl
+answer_one (Ok x) (Err q) e = absurd (answer_none {T = Unit {0}} (Err q) q refl (sym e))
+answer_one (Err r) (Ok y) e = absurd (answer_none {T = Unit {0}} (Err r) r refl e)
+answer_one (Err r) (Err q) e = ap Err (number_injective r q e)
+
+-- a `?` passes on the refusal that it met, or what is made of it
+pub passed_on : {T E : Type 0} (a : Result T E) (r : E) → IsErr a × IsErrAnd a (λ e. e ≡ r) → a ≡ Err r
 passed_on a r h = let p = err_from_is_err_and a h.1 in p.1 ∙ ap Err p.2

@@ -6,8 +6,12 @@ use native.Mathlib.Omega.{arith}
 use native.Mathlib.Numerals.{add-one}
 use lib.ListN.{length, length-append}
 use lib.Dec.{eqb}
+use Rattle.std.specs.Prelude.{Result, Ok, Err}
 use Rattle.search.specs.Search.{one_if}
 use Rattle.search.proofs.Least.{last_or_below}
+use Rattle.refusal.specs.declared.Refusal.{Refusal}
+use Rattle.refusal.specs.Numbers.{answer_of}
+use Rattle.refusal.proofs.Laws.{number_some, number_injective, answer_one}
 use Rattle.trace.specs.Layout.{Trace, writes_in, up_to, record_in}
 use Rattle.trace.proofs.Lists.{writes_snoc, up_to_is}
 use Rattle.pool.specs.declared.Pool.{Pool}
@@ -17,7 +21,22 @@ use Rattle.tally.specs.Rows.{row_numbers}
 use Rattle.tally.specs.Tally.{counted_by, counted_rows}
 use Rattle.tally.proofs.Laws.{counted_none, counted_snoc}
 use Rattle.effect.specs.Record.{Did, record_of}
+use Rattle.replay.specs.declared.Ended.{Ended}
+use Rattle.replay.specs.declared.Unstepped.{Unstepped}
+use Rattle.replay.specs.Calls.{Stepped, stepped_by, ended_as}
 use Rattle.replay.specs.Replay.{Played, started, after, replay_to, rows_numbers}
+
+-- two answers that are read alike are the same, and so are pools and tallies
+pub stepped_one : (a b : Result Row Unstepped) (p q : Pool) (t u : Tally) → stepped_by a p t ≡ stepped_by b q u → (a ≡ b) × (p ≡ q) × (t ≡ u)
+stepped_one (Ok v) (Ok w) p q t u e = (ap (λ (s : Stepped). Ok s.row) e, ap (λ (s : Stepped). s.pool) e, ap (λ (s : Stepped). s.tally) e)
+stepped_one (Ok v) (Err y) p q t u e = let n = number_some y.refusal in let z = ap (λ (s : Stepped). s.refusal) e in absurd (omega arith)
+stepped_one (Err x) (Ok w) p q t u e = let n = number_some x.refusal in let z = ap (λ (s : Stepped). s.refusal) e in absurd (omega arith)
+stepped_one (Err x) (Err y) p q t u e =
+    let n = number_injective x.refusal y.refusal (ap (λ (s : Stepped). s.refusal) e) in
+    (λ i. Err (record { refusal = n i; row = (e i).row }), ap (λ (s : Stepped). s.pool) e, ap (λ (s : Stepped). s.tally) e)
+
+pub ended_one : (a b : Result (Unit {0}) Refusal) (p q : Pool) (t u : Tally) → ended_as (answer_of a) p t ≡ ended_as (answer_of b) q u → (a ≡ b) × (p ≡ q) × (t ≡ u)
+ended_one a b p q t u e = (answer_one a b (ap (λ (r : Ended). r.refusal) e), ap (λ (r : Ended). r.pool) e, ap (λ (r : Ended). r.tally) e)
 
 -- the rows' numbers
 pub numbers_none : rows_numbers [] ≡ []

@@ -14,6 +14,7 @@ use Rattle.tally.specs.Rows.{refused_row}
 use Rattle.tally.specs.Tally.{tally_within, counted_by}
 use Rattle.effect.specs.Record.{Did, record_of, dirty_in}
 use Rattle.replay.specs.declared.Ended.{Ended}
+use Rattle.replay.specs.declared.Unstepped.{Unstepped}
 use Rattle.replay.specs.Replay.{Played, replay_of, rows_numbers}
 
 -- 14 unless the pool is sound and no count of the tally handed in is above 4,000,000,000
@@ -34,10 +35,14 @@ pub record Stepped : Type 0 where
   pub pool : Pool
   pub tally : Tally
 
--- as its answer tells; the row of a refused call is that of a refused record
-abbrev pub stepped_by : Result Row Refusal → Pool → Tally → Stepped
+-- the row of a refused call is that of a refused record
+abbrev pub refused_step : Refusal → Unstepped
+refused_step r = record { refusal = r; row = refused_row (number_of r) }
+
+-- as its answer tells
+abbrev pub stepped_by : Result Row Unstepped → Pool → Tally → Stepped
 stepped_by (Ok row) p t = record { refusal = 0; row = row; pool = p; tally = t }
-stepped_by (Err r) p t = record { refusal = number_of r; row = refused_row (number_of r); pool = p; tally = t }
+stepped_by (Err u) p t = record { refusal = number_of u.refusal; row = u.row; pool = p; tally = t }
 
 -- then it works as a record of a replay; a refused call hands back pool and tally as given
 abbrev pub stepped_of : ℕ → Pool → Tally → Did → Stepped

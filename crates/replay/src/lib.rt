@@ -6,7 +6,7 @@ ghost use Rattle.refusal.specs.Numbers.{number_of, answer_of};
 ghost use Rattle.trace.specs.Check.{trace_of};
 ghost use Rattle.effect.specs.Record.{dirty_in};
 ghost use Rattle.replay.specs.Replay.{replay_of};
-ghost use Rattle.replay.specs.Calls.{may_begin, step_refusal, stepped_by, StepInto, counts_refusal, room_for, ended_as, ended_of, counts_of, ReplayInto};
+ghost use Rattle.replay.specs.Calls.{may_begin, step_refusal, refused_step, stepped_by, StepInto, counts_refusal, room_for, ended_as, ended_of, counts_of, ReplayInto};
 ghost use Rattle.replay.specs.ForCode.{RanInto};
 
 use pool::{Frame, Pool};
@@ -21,6 +21,25 @@ pub struct Ended {
     pub refusal: u32,
     pub pool: Pool,
     pub tally: Tally,
+}
+
+// Why a step was refused, and its row.
+#[derive(Clone, Copy, Debug, PartialEq, Eq)]
+pub struct Unstepped {
+    pub refusal: Refusal,
+    pub row: Row,
+}
+
+// The row of a refused call is that of a refused record.
+impl From<Refusal> for Unstepped {
+    ghost from_gives = { λ refusal handed. handed ≡ refused_step refusal };
+
+    fn from(refusal: Refusal) -> Unstepped {
+        Unstepped {
+            refusal,
+            row: tally::refused_row(u32::from(refusal)),
+        }
+    }
 }
 
 // Whether the pool is sound and no count of the tally is too high.
@@ -46,7 +65,7 @@ pub fn step(
     page: u32,
     kind: u16,
     written: &mut [u32],
-) -> Result<Row, Refusal>
+) -> Result<Row, Unstepped>
     ensures { StepInto pool.old tally.old page kind written.old (stepped_by result pool.new tally.new) written.new }
 {
     check_step(pool, *tally, kind, written.len())?;

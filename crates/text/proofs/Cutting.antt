@@ -5,7 +5,7 @@ use mathlib.Core.List.{List, [], ◌∷◌, map}
 use Prim.Native.Nat.{ℕ, suc, ◌+◌, ◌-◌, ◌≤◌, ◌<◌}
 use native.Mathlib.Omega.{arith}
 use lib.Dec.{eqb, ltb}
-use lib.ListN.{length, take, drop, drop_of_length-le}
+use lib.ListN.{length, length-map, take, drop, drop_of_length-le}
 use lib.Seq.{take_all}
 use borrow.Author.Tests.{ltb-false}
 use Rattle.std.specs.Prelude.{Some, None, cond, nat_lt}
@@ -13,7 +13,7 @@ use Rattle.std.specs.List.{position, position_or_len}
 use Rattle.std.proofs.lemmas.List.Sums.{prefix_len-le-length}
 use Rattle.std.proofs.lemmas.List.Quantifiers.{position-Some}
 use Rattle.text.specs.declared.Line.{Line}
-use Rattle.text.specs.Text.{line_feed, before, lines_of, line_of, lines_in, is_bad}
+use Rattle.text.specs.Text.{line_feed, before, lines_of, line_of, lines_in}
 use Rattle.text.proofs.Laws.{rest_whole}
 
 abbrev feed : ℕ → Bool
@@ -83,6 +83,10 @@ lines_few (c ∷ s) = go (eqb c line_feed) refl (lines_few s)
         more [] i = omega arith
         more (l ∷ ls) i = omega arith
 
+pub lines_fit : (s : List ℕ) → length (lines_in s) ≤ length s
+unfolding lines_in
+lines_fit s = let few = lines_few s in let same = length-map (lines_of s) line_of in omega arith
+
 -- a line read, and the end of the lines
 pub read_more : (s t line : List ℕ) (read : Line) → lines_of s ≡ line ∷ lines_of t → read ≡ line_of line → lines_in s ≡ read ∷ lines_in t
 unfolding lines_in
@@ -91,7 +95,3 @@ read_more s t line read e r = ap (λ (ls : List (List ℕ)). map line_of ls) e �
 pub read_all : (s : List ℕ) → lines_of s ≡ [] → lines_in s ≡ []
 unfolding lines_in
 read_all s e = rw e
-
--- a line that is found is one of them
-pub before_some : (s : List ℕ) (i : ℕ) → Some i ≡ position (λ (line : List ℕ). is_bad (line_of line)) (lines_of s) → i < length (lines_of s)
-before_some s i e = (position-Some (λ (line : List ℕ). is_bad (line_of line)) (lines_of s) i [] (sym e)).0

@@ -1,22 +1,20 @@
 -- Laws of words and lines.
-use mathlib.Core.Path.{◌≡◌, refl, sym, ap}
-use mathlib.Core.Bool.{Bool, true, false}
-use mathlib.Core.List.{List, [], ◌∷◌, ◌++◌, map}
-use Prim.Native.Nat.{ℕ, suc, ◌+◌, ◌-◌}
+use mathlib.Core.Path.{◌≡◌, refl, sym, ◌∙◌}
+use mathlib.Core.Bool.{true, false}
+use mathlib.Core.List.{List, [], ◌∷◌}
+use Prim.Native.Nat.{ℕ, zero, suc, ◌+◌, ◌-◌}
+use native.Mathlib.Numerals.{add-one}
 use native.Mathlib.Omega.{arith}
-use lib.Dec.{eqb, ltb}
-use lib.ListN.{length, take, drop, length-drop}
+use lib.Dec.{eqb}
+use lib.ListN.{length, take, drop, length-append, length-drop}
 use lib.Seq.{take_all}
 use lib.Pointwise.{pointwise}
-use borrow.Author.Tests.{lt-ltb}
 use Rattle.std.proofs.lemmas.Bool.Decides.{nat_tests}
-use Rattle.std.proofs.lemmas.List.Recursion.{is_count_by}
-use Rattle.std.specs.Prelude.{Some, None, cond, option_map, count_by}
-use Rattle.std.specs.List.{position, position_or_len}
+use Rattle.search.specs.Search.{pick}
+use Rattle.refusal.specs.Refusals.{or_else}
 use Rattle.numeral.specs.Numeral.{numeral_of}
 use Rattle.text.specs.declared.Line.{Line}
-use Rattle.text.specs.declared.Line.TheVariants.{Passed, Record, Bad}
-use Rattle.text.specs.Text.{word_of, begins_with, as_kind, record_line, line_of, is_bad, is_record, first_bad, line_numbered, page_of, numbers_in, pages_in}
+use Rattle.text.specs.Text.{word_of, begins_with, as_kind, record_line, is_bad, first_bad, line_numbered, number_in, numbers_in}
 
 -- ---- words
 
@@ -42,38 +40,29 @@ rest_whole l at = sym (take_all (length l - at) (drop at l) (omega (arith, lengt
 
 -- ---- what is found in lines
 
--- the first bad line behind n others
-abbrev bad : List ℕ → Bool
-bad line = is_bad (line_of line)
+or_assoc : (a b c : ℕ) → or_else (or_else a b) c ≡ or_else a (or_else b c)
+or_assoc zero b c = refl
+or_assoc (suc a) b c = refl
 
-bad_from : (n : ℕ) (ls : List (List ℕ)) → first_bad n (map line_of ls) ≡ cond (ltb (position_or_len bad ls) (length ls)) (suc (n + position_or_len bad ls)) 0
+-- a line's number is kept
+pub number_kept : (n : ℕ) → number_in (line_numbered n) ≡ n
+number_kept zero = refl
+number_kept (suc n) = refl
+
+pub bad_more : (all rest : List Line) (line : Line) (bad n now : ℕ) → first_bad 0 all ≡ or_else bad (first_bad n (line ∷ rest)) → now ≡ or_else bad (pick (is_bad line) (n + 1) 0)
+    → first_bad 0 all ≡ or_else now (first_bad (n + 1) rest)
 unfolding first_bad
-bad_from n [] = refl
-bad_from n (l ∷ ls) = go (bad l) refl (bad_from (suc n) ls)
-  where
-    go : (b : Bool) → bad l ≡ b → first_bad (suc n) (map line_of ls) ≡ cond (ltb (position_or_len bad ls) (length ls)) (suc (suc n + position_or_len bad ls)) 0
-        → first_bad n (map line_of (l ∷ ls)) ≡ cond (ltb (position_or_len bad (l ∷ ls)) (length (l ∷ ls))) (suc (n + position_or_len bad (l ∷ ls))) 0
-    go true e i =
-        let some : ltb 0 (suc (length ls)) ≡ true = lt-ltb 0 (suc (length ls)) (omega arith) in
-        let here : n + 0 ≡ n = omega arith in
-        rw (e, some, here)
-    go false e i = rw (e, i) (later (position_or_len bad ls) (length ls))
-      where
-        later : (k m : ℕ) → cond (ltb k m) (suc (suc n + k)) 0 ≡ cond (ltb (1 + k) (suc m)) (suc (n + (1 + k))) 0
-        later k m = grind (arith, nat_tests)
+bad_more all rest line bad n now e f = e ∙ sym (rw (f, add-one) (or_assoc bad (pick (is_bad line) (suc n) 0) (first_bad (suc n) rest)))
 
-pub first_bad_is : (ls : List (List ℕ)) → option_map (λ (before : ℕ). before + 1) (position bad ls) ≡ line_numbered (first_bad 0 (map line_of ls))
-first_bad_is ls = rw (bad_from 0 ls) (go (ltb (position_or_len bad ls) (length ls)) (position_or_len bad ls))
-  where
-    go : (b : Bool) (n : ℕ) → option_map (λ (before : ℕ). before + 1) (cond b (Some n) None) ≡ line_numbered (cond b (suc (0 + n)) 0)
-    go true n = ap (λ (k : ℕ). Some k) (omega arith)
-    go false n = refl
+pub bad_all : (all lines : List Line) (bad n : ℕ) → lines ≡ [] → first_bad 0 all ≡ or_else bad (first_bad n lines) → bad ≡ first_bad 0 all
+unfolding first_bad
+bad_all all lines zero n e h = sym (h ∙ rw e)
+bad_all all lines (suc b) n e h = sym h
 
-pub records_are : (ls : List (List ℕ)) → count_by (λ (line : List ℕ). is_record (line_of line)) ls ≡ length (pages_in (map line_of ls))
+pub numbers_more : (f : Line → List ℕ) (line : Line) (rest : List Line) → length (numbers_in f (line ∷ rest)) ≡ length (f line) + length (numbers_in f rest)
 unfolding numbers_in
-records_are ls = sym (is_count_by (λ (lines : List (List ℕ)). length (pages_in (map line_of lines))) (λ (line : List ℕ). is_record (line_of line)) refl (λ l lines. with_one (line_of l) (pages_in (map line_of lines))) ls)
-  where
-    with_one : (line : Line) (rest : List ℕ) → length (page_of line ++ rest) ≡ cond (is_record line) (1 + length rest) (length rest)
-    with_one Passed rest = refl
-    with_one (Record kind page) rest = omega arith
-    with_one Bad rest = refl
+numbers_more f line rest = length-append (f line) (numbers_in f rest)
+
+pub numbers_none : (f : Line → List ℕ) (lines : List Line) → lines ≡ [] → length (numbers_in f lines) ≡ 0
+unfolding numbers_in
+numbers_none f lines e = rw e

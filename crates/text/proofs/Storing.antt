@@ -1,5 +1,5 @@
 -- A trace's lines as they are stored.
-use mathlib.Core.Path.{◌≡◌, refl, sym, ◌∙◌}
+use mathlib.Core.Path.{◌≡◌, refl, sym, ap, ◌∙◌}
 use mathlib.Core.List.{List, [], ◌∷◌, ◌++◌}
 use Prim.Native.Nat.{ℕ, zero, suc, ◌+◌, ◌*◌, ◌≤◌, ◌<◌}
 use native.Mathlib.Nat.{zero-add}
@@ -8,15 +8,18 @@ use native.Mathlib.Omega.{arith}
 use lib.ListN.{length, get_or, length-append}
 use lib.Seq.{sets}
 use borrow.Author.Tests.{le-leb, lt-leb}
+use Rattle.std.specs.Prelude.{Result, Ok, Err}
 use Rattle.word.proofs.Laws.{sets_append}
 use Rattle.refusal.specs.Refusals.{no_room}
+use Rattle.refusal.specs.declared.Refusal.{Refusal}
+use Rattle.refusal.proofs.Laws.{number_injective}
 use Rattle.trace.specs.Layout.{Trace}
 use Rattle.trace.specs.declared.Summary.{Summary}
 use Rattle.trace.specs.Check.Checked.{Accepted, Refused}
 use Rattle.trace.specs.Check.{refusal_of, check_of, trace_of}
 use Rattle.trace.proofs.Accept.{accepted, counts_are, refused_is}
 use Rattle.text.specs.Text.Exported.{Written, Refused as Exported-as-Refused}
-use Rattle.text.specs.Text.{line_feed, word_of, decimal_of, line_text, line_room, text_to, text_of, export_refusal, Exported, ExportedInto}
+use Rattle.text.specs.Text.{line_feed, word_of, decimal_of, line_text, line_room, text_to, text_of, export_refusal, Exported, exported_by, ExportedInto}
 use Rattle.text.proofs.Decimal.{decimal_few}
 
 pub word_short : (kind : ℕ) → length (word_of kind) ≤ 6
@@ -108,6 +111,18 @@ text_long t = to_long t.pages t.kinds (length t.pages)
 -- any two outcomes that the contract of the text allows are the same
 pub export_one : (s out : List ℕ) (a b : Exported) (out₁ out₂ : List ℕ) → ExportedInto s out a out₁ → ExportedInto s out b out₂ → (a ≡ b) × (out₁ ≡ out₂)
 export_one s out a b out₁ out₂ x y = (x.answers ∙ sym y.answers, x.bytes_hold ∙ sym y.bytes_hold)
+
+-- two answers that are read alike are the same
+pub exported_one : (a b : Result ℕ Refusal) → exported_by a ≡ exported_by b → a ≡ b
+exported_one (Ok n) (Ok m) e = cc
+exported_one (Ok n) (Err q) e = cc
+exported_one (Err r) (Ok m) e = cc
+exported_one (Err r) (Err q) e = ap Err (number_injective r q (cc))
+
+-- and so are any two answers of the call
+pub export_answer_one : (s out : List ℕ) (a b : Result ℕ Refusal) (out₁ out₂ : List ℕ)
+    → ExportedInto s out (exported_by a) out₁ → ExportedInto s out (exported_by b) out₂ → (a ≡ b) × (out₁ ≡ out₂)
+export_answer_one s out a b out₁ out₂ x y = let e = export_one s out (exported_by a) (exported_by b) out₁ out₂ x y in (exported_one a b e.0, e.1)
 
 -- with room for the longest line of each record, the text of an accepted trace is not refused
 pub export_grants : (s out : List ℕ) (a : Exported) (out' : List ℕ) → refusal_of s ≡ 0 → line_room * length (trace_of s).pages ≤ length out → ExportedInto s out a out'

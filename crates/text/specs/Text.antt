@@ -76,12 +76,6 @@ is_bad Passed = false
 is_bad (Record kind page) = false
 is_bad Bad = true
 
--- whether it is a record
-abbrev pub is_record : Line → Bool
-is_record Passed = false
-is_record (Record kind page) = true
-is_record Bad = false
-
 -- the number of the first bad line behind so many others (1 is the first), or 0
 unfoldable pub first_bad : ℕ → List Line → ℕ
 first_bad n [] = 0
@@ -91,6 +85,11 @@ first_bad n (line ∷ lines) = or_else (pick (is_bad line) (suc n) 0) (first_bad
 abbrev pub line_numbered : ℕ → Option ℕ
 line_numbered zero = None
 line_numbered (suc n) = Some (suc n)
+
+-- and the number of one that was found, or 0
+abbrev pub number_in : Option ℕ → ℕ
+number_in None = 0
+number_in (Some n) = n
 
 -- the page of a line that is a record
 abbrev pub page_of : Line → List ℕ

@@ -1,11 +1,13 @@
 // A trace as text: a line for each record.
 #![tactic(auto)]
 
-ghost use Rattle.std.specs.Prelude.{◌≡◌, ◌+◌, ◌*◌, ◌≤◌, eqb, length, option_map, position, count_by};
+ghost use Rattle.std.specs.Prelude.{◌≡◌, ◌+◌, ◌*◌, ◌≤◌, ◌<◌, eqb, length, position};
 ghost use Rattle.std.specs.Iterator.{YieldsFirstRef, item_count};
 ghost use Rattle.std.proofs.lemmas.List.Edits.{sets};
+ghost use Rattle.search.specs.Search.{pick};
+ghost use Rattle.refusal.specs.Refusals.{or_else};
 ghost use Rattle.numeral.specs.Numeral.{numeral_of};
-ghost use Rattle.text.specs.Text.{line_feed, is_passed, record_line, line_of, lines_of, lines_in, is_bad, is_record, line_numbered, first_bad, page_of, kind_of, pages_in, kinds_in, word_of, decimal_of, line_text, line_room, text_of, exported_by, ExportedInto};
+ghost use Rattle.text.specs.Text.{line_feed, is_passed, record_line, line_of, lines_of, lines_in, is_bad, line_numbered, number_in, first_bad, page_of, kind_of, pages_in, kinds_in, word_of, decimal_of, line_text, line_room, text_of, exported_by, ExportedInto};
 ghost use Rattle.trace.specs.Check.{trace_of};
 
 use refusal::Refusal;
@@ -112,35 +114,41 @@ fn is_bad(line: Line) -> bool
     matches!(line, Line::Bad)
 }
 
-fn is_record(line: Line) -> bool
-    ensures { result ≡ is_record line }
+// How many records a line has.
+fn records_of(line: Line) -> usize
+    ensures { (result ≡ length (page_of line)) × (result ≤ 1) }
 {
-    matches!(line, Line::Record(_, _))
+    match line {
+        Line::Record(_, _) => 1,
+        Line::Passed | Line::Bad => 0,
+    }
 }
 
-// How many lines stand before the first bad one.
-fn before_bad(text: &[u8]) -> Option<usize>
-    ensures { result ≡ position (λ line. is_bad (line_of line)) (lines_of text.now) }
+// The first bad line, after one of that number: one that was found before, or this one.
+fn first_of(bad: Option<usize>, fault: bool, number: usize) -> Option<usize>
+    requires { (bad ≡ line_numbered (number_in bad)) × (0 < number) }
+    ensures { result ≡ line_numbered (or_else (number_in bad) (pick fault number 0)) }
 {
-    Lines { text }.position(|line| is_bad(line_of(line)))
+    if bad.is_some() {
+        return bad;
+    }
+    fault.then_some(number)
 }
 
-fn records_of(text: &[u8]) -> usize
-    ensures { result ≡ count_by (λ line. is_record (line_of line)) (lines_of text.now) }
-{
-    Lines { text }
-        .filter(|line| is_record(line_of(line)))
-        .count()
-}
-
-// The first bad line, and how many records there are.
+// The first bad line, and how many records there are, in one look through the text.
 pub fn survey_of(text: &[u8]) -> Survey
     ensures { (result.bad ≡ line_numbered (first_bad 0 (lines_in text.now))) × (result.records ≡ length (pages_in (lines_in text.now))) }
 {
-    Survey {
-        bad: before_bad(text).map(|before| before + 1),
-        records: records_of(text),
+    let mut bad = None;
+    let mut records = 0;
+    let mut lines = 0;
+    for bytes in (Lines { text }) {
+        let line = line_of(bytes);
+        lines += 1;
+        bad = first_of(bad, is_bad(line), lines);
+        records += records_of(line);
     }
+    Survey { bad, records }
 }
 
 // What a line gives is stored at place n of both lists; answers the place after it.

@@ -1,5 +1,5 @@
 -- Laws of the checks: what is known where nothing is refused, and the answer where something is.
-use mathlib.Core.Path.{◌≡◌, refl}
+use mathlib.Core.Path.{◌≡◌, refl, ap}
 use mathlib.Core.List.{List}
 use mathlib.Core.Bool.{◌&&◌, and-eq-true_iff}
 use Prim.Native.Nat.{ℕ, zero, suc, ◌≤◌}
@@ -7,14 +7,17 @@ use native.Mathlib.Omega.{arith}
 use lib.ListN.{length}
 use lib.Dec.{eqb, leb}
 use borrow.Author.Tests.{leb-true, eqb-true}
+use Rattle.std.specs.Prelude.{Result, Ok, Err}
 use Rattle.word.specs.declared.Order.{Order}
 use Rattle.refusal.specs.Refusals.{demand, other_edition, too_many, wrong_length}
-use Rattle.refusal.proofs.Laws.{met}
+use Rattle.refusal.specs.declared.Refusal.{Refusal}
+use Rattle.refusal.proofs.Laws.{met, number_injective}
 use Rattle.trace.specs.Layout.{Trace, edition, record_limit, header_length, file_length, edition_at, count_at, offset_at, length_at, page_at, settings_in, trace_at}
 use Rattle.trace.specs.Check.{layout_refusal, lengths_right, outcome, summary_of, checked, number_of_answer}
 use Rattle.trace.specs.Check.Outcome.{Whole}
 use Rattle.trace.specs.declared.Summary.{Summary}
 use Rattle.trace.specs.Check.Checked.{Refused, Accepted}
+use Rattle.trace.specs.Answer.{checked_by}
 use Rattle.trace.proofs.Lists.{length_up_to}
 
 -- what refusals 3 to 5 demand
@@ -69,6 +72,13 @@ outcome_whole (suc r) t u e = absurd (let z : ◌≡◌ {A = ℕ} 0 1 = cc in om
 pub number_is : (r : ℕ) (t : Trace) → number_of_answer (checked (outcome r t)) ≡ r
 number_is zero t = refl
 number_is (suc r) t = refl
+
+-- two answers that are read alike are the same
+pub checked_one : (a b : Result Summary Refusal) → checked_by a ≡ checked_by b → a ≡ b
+checked_one (Ok h) (Ok g) e = cc
+checked_one (Ok h) (Err q) e = cc
+checked_one (Err r) (Ok g) e = cc
+checked_one (Err r) (Err q) e = ap Err (number_injective r q (cc))
 
 -- the header that the checker tells is that of the trace
 pub told : (o : Order) (s : List ℕ) → Accepted (record { settings = settings_in o s; order = o; count = count_at o s }) ≡ checked (outcome 0 (trace_at o s))

@@ -6,6 +6,7 @@ use lib.Seq.{length-take-le}
 use Rattle.trace.specs.Layout.{file_length, record_limit}
 use Rattle.word.proofs.Laws.{Bytes, bytes_of_lem}
 use Rattle.refusal.proofs.Laws.{passed_on, number_some}
+use Rattle.amend.specs.Amend.{refused_sheet}
 use Rattle.amend.proofs.Laws.{with_refused, with_whole, set_short}
 use borrow.Author.Rules.{rules}
 use Rattle.amend.proofs.counts.Goals as goal
@@ -15,7 +16,7 @@ returns-in_err-set c =
     let a = c.args in
     let long = length-replicate {A = ℕ} (file_length record_limit) 0 in
     let some = number_some c.in_err-set.field-0.0 in
-    rw (passed_on _ _ c.from_residual.ensures) (with_refused a.bytes.now a.wish _ _ _ long c.in_err-set.ensures.set_into.answers (λ z. omega arith) refl)
+    rw (passed_on c.from_residual.result (refused_sheet c.in_err-set.field-0.0) c.from_residual.ensures) (with_refused a.bytes.now a.wish _ _ _ long c.in_err-set.ensures.set_into.answers (λ z. omega arith) refl)
 
 pub slice_bounds-space-end : goal.slice_bounds-space-end
 slice_bounds-space-end c =

@@ -1,4 +1,4 @@
-use Rattle.fresh.proofs.Laws.{empty_ready, empty_counts_are, none_counted}
+use Rattle.fresh.proofs.Laws.{empty_opened, fresh_ready, fresh_counts_are, none_counted}
 use Rattle.fresh.proofs.counts.Goals as goal
 
 pub returns-then-trace-eq0 : goal.returns-then-trace-eq0
@@ -7,8 +7,8 @@ returns-then-trace-eq0 c =
 
 pub count-requires : goal.count-requires
 count-requires c =
-    (empty_ready _ _ _ _ c.args.trace.now.accepted c.empty-pool.ensures c.zero-tally.ensures).begins
+    (fresh_ready _ _ _ _ c.args.trace.now.accepted (empty_opened _ _ _ c.args.trace.now.accepted c.empty-pool.ensures) c.zero-tally.ensures).begins
 
 pub returns : goal.returns
 returns c =
-    empty_counts_are _ _ _ _ c.args.trace.now.accepted c.empty-pool.ensures c.zero-tally.ensures _ c.count.ensures
+    fresh_counts_are _ _ _ _ c.args.trace.now.accepted (empty_opened _ _ _ c.args.trace.now.accepted c.empty-pool.ensures) c.zero-tally.ensures _ c.count.ensures

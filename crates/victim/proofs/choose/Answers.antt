@@ -13,7 +13,7 @@ pub returns-in-1 : goal.returns-in-1
 returns-in-1 c = chose_by (pool_on c.args.bench.now) 1 _ _ c.in-1.is c.choose-in-1.ensures
 
 pub returns-in-2 : goal.returns-in-2
-returns-in-2 c = chose_by (pool_on c.args.bench.now) 2 _ _ c.in-2.is c.choose-in-2.ensures
+returns-in-2 c = chose_by (pool_on c.args.bench.now) 2 _ _ c.in-2.is c.choose-in-2.ensures.chose
 
 pub returns-in-3-to-65535 : goal.returns-in-3-to-65535
 returns-in-3-to-65535 c =

@@ -1,4 +1,4 @@
-use Rattle.std.proofs.Common.{ap}
+use Rattle.std.proofs.Common.{ap, refl}
 use Rattle.settings.proofs.Laws.{ranges}
 use Rattle.pool.proofs.Sound.{told}
 use Rattle.table.specs.Table.{pool_on}
@@ -16,8 +16,11 @@ drawn-d-requires c = record { sound = c.requires; now = now_is (pool_on c.args.b
 pub victim-found-requires : goal.victim-found-requires
 victim-found-requires c = record { sound = c.requires; now = now_is (pool_on c.args.bench.now) _ c.now_of-epoch.ensures }
 
-pub returns : goal.returns
-returns c =
+pub returns-clause-rest : goal.returns-clause-rest
+returns-clause-rest c = refl
+
+pub returns-clause-chose : goal.returns-clause-chose
+returns-clause-chose c =
     let p = pool_on c.args.bench.now in
     let e = choice_is p _ _ _ c.drawn-d.ensures.0 (victim_is p _ _ c.drawn-d.ensures.1 c.victim-found.ensures) c.moved-bench.ensures in
     record { choice = e; left = ap (left_by p) e }
