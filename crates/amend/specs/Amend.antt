@@ -77,17 +77,20 @@ pub record Counted : Type 0 where
   pub count : ℕ
   pub tally : Tally
 
--- nothing is counted of what is refused: the least settings, no record, no count
-abbrev pub not_counted : ℕ → Counted
-not_counted r = record { refusal = r; settings = one_frame; count = 0; tally = zero_tally }
-
--- what is handed back then
-abbrev pub refused_sheet : Refusal → Uncounted
-refused_sheet r = record { refusal = r; sheet = record { settings = one_frame; count = 0; tally = zero_tally } }
-
 -- a sheet, beside a refusal or 0
 abbrev pub counted : ℕ → Sheet → Counted
 counted r sheet = record { refusal = r; settings = sheet.settings; count = sheet.count; tally = sheet.tally }
+
+-- nothing is counted of what is refused: the least settings, no record, no count
+abbrev pub no_sheet : Sheet
+no_sheet = record { settings = one_frame; count = 0; tally = zero_tally }
+
+abbrev pub not_counted : ℕ → Counted
+not_counted r = counted r no_sheet
+
+-- what a refused call hands back
+abbrev pub refused_sheet : Refusal → Uncounted
+refused_sheet r = record { refusal = r; sheet = no_sheet }
 
 -- what a call answered
 abbrev pub counted_by : Result Sheet Uncounted → Counted

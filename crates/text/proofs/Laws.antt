@@ -14,7 +14,8 @@ use Rattle.search.specs.Search.{pick}
 use Rattle.refusal.specs.Refusals.{or_else}
 use Rattle.numeral.specs.Numeral.{numeral_of}
 use Rattle.text.specs.declared.Line.{Line}
-use Rattle.text.specs.Text.{word_of, begins_with, as_kind, record_line, is_bad, first_bad, line_numbered, number_in, numbers_in}
+use Rattle.text.specs.Text.{word_of, begins_with, as_kind, record_line, is_bad, first_bad, line_numbered, numbers_in}
+use Rattle.text.specs.ForCode.{number_in}
 
 -- ---- words
 

@@ -86,11 +86,6 @@ abbrev pub line_numbered : ℕ → Option ℕ
 line_numbered zero = None
 line_numbered (suc n) = Some (suc n)
 
--- and the number of one that was found, or 0
-abbrev pub number_in : Option ℕ → ℕ
-number_in None = 0
-number_in (Some n) = n
-
 -- the page of a line that is a record
 abbrev pub page_of : Line → List ℕ
 page_of Passed = []

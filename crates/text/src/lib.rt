@@ -7,7 +7,8 @@ ghost use Rattle.std.proofs.lemmas.List.Edits.{sets};
 ghost use Rattle.search.specs.Search.{pick};
 ghost use Rattle.refusal.specs.Refusals.{or_else};
 ghost use Rattle.numeral.specs.Numeral.{numeral_of};
-ghost use Rattle.text.specs.Text.{line_feed, is_passed, record_line, line_of, lines_of, lines_in, is_bad, line_numbered, number_in, first_bad, page_of, kind_of, pages_in, kinds_in, word_of, decimal_of, line_text, line_room, text_of, exported_by, ExportedInto};
+ghost use Rattle.text.specs.Text.{line_feed, is_passed, record_line, line_of, lines_of, lines_in, is_bad, line_numbered, first_bad, page_of, kind_of, pages_in, kinds_in, word_of, decimal_of, line_text, line_room, text_of, exported_by, ExportedInto};
+ghost use Rattle.text.specs.ForCode.{number_in};
 ghost use Rattle.trace.specs.Check.{trace_of};
 
 use refusal::Refusal;
@@ -124,7 +125,7 @@ fn records_of(line: Line) -> usize
     }
 }
 
-// The first bad line, after one of that number: one that was found before, or this one.
+// The first bad line so far, by its number: one that was found before, or the one of this number where it is bad.
 fn first_of(bad: Option<usize>, fault: bool, number: usize) -> Option<usize>
     requires { (bad ≡ line_numbered (number_in bad)) × (0 < number) }
     ensures { result ≡ line_numbered (or_else (number_in bad) (pick fault number 0)) }

@@ -3,7 +3,8 @@ use mathlib.Core.List.{List, ◌∷◌}
 use native.Mathlib.Omega.{arith}
 use lib.ListN.{length}
 use Rattle.text.specs.declared.Line.{Line}
-use Rattle.text.specs.Text.{lines_in, line_numbered, number_in, page_of, pages_in}
+use Rattle.text.specs.Text.{lines_in, line_numbered, page_of, pages_in}
+use Rattle.text.specs.ForCode.{number_in}
 use Rattle.text.proofs.Laws.{number_kept, bad_more, bad_all, numbers_more, numbers_none}
 use Rattle.text.proofs.Cutting.{lines_fit, read_more, read_all}
 use Rattle.text.proofs.survey_of.Goals as goal

@@ -2,7 +2,8 @@ use mathlib.Core.Path.{◌≡◌}
 use Prim.Native.Nat.{◌+◌, ◌≤◌}
 use lib.ListN.{length}
 use Rattle.refusal.specs.Refusals.{or_else}
-use Rattle.text.specs.Text.{lines_in, line_numbered, number_in, first_bad, pages_in}
+use Rattle.text.specs.Text.{lines_in, line_numbered, first_bad, pages_in}
+use Rattle.text.specs.ForCode.{number_in}
 use Rattle.text.proofs.survey_of.Given as goal
 
 abbrev pub invariant-loop-bytes : goal.invariant-loop-bytes
